@@ -22,7 +22,7 @@ static struct link {
 static size_t links_in_use;
 static struct endpoint peer;
 static int listener = -1;
-static uint64_t connect_at = UINT64_MAX;
+static uint64_t connect_at;
 static size_t received; /* bytes of sessions since the last connection was opened */
 static bool is_refused; /* the last connection failed, which was said */
 
@@ -94,17 +94,15 @@ static void begin(int fd, bool is_open, uint64_t now) {
 }
 
 static void open_link(uint64_t now) {
-    const struct sockaddr *address = (const struct sockaddr *)&peer.address;
-    int fd = socket(address->sa_family, SOCK_STREAM | SOCK_NONBLOCK | SOCK_CLOEXEC, 0);
+    int fd = socket(peer.at.any.sa_family, SOCK_STREAM | SOCK_NONBLOCK | SOCK_CLOEXEC, 0);
     connect_at = NEVER;
     received = 0;
-    if (fd >= 0 && (connect(fd, address, peer.length) == 0 || errno == EINPROGRESS)) return begin(fd, false, now);
+    if (fd >= 0 && (connect(fd, &peer.at.any, peer.length) == 0 || errno == EINPROGRESS)) return begin(fd, false, now);
     refuse(strerror(errno), now);
     if (fd >= 0) close(fd);
 }
 
-static void accept_link(uint32_t number, uint64_t now) {
-    (void)number;
+static void accept_link(uint32_t number UNUSED, uint64_t now) {
     int fd = accept4(listener, NULL, NULL, SOCK_NONBLOCK | SOCK_CLOEXEC);
     if (fd >= 0) begin(fd, true, now);
     else say(LOG_WARNING, "accept: %s", strerror(errno));
@@ -128,7 +126,7 @@ static void carry_out(struct link *link, const struct dp_message *message, uint6
     case DP_ADD_SESSION:
         link->has_sessions = true;
         received += message->length;
-        sessions_add(owner_of(link), &message->body.session, NULL, now);
+        sessions_add(owner_of(link), message->body.session, NULL, now);
         break;
     case DP_DELETE_SESSION:
         received += message->length;
@@ -184,17 +182,14 @@ static void link_event(uint32_t place, uint64_t now) {
 void control_open(const struct endpoint *endpoint, bool listens) {
     for (size_t i = 0; i < LINKS; i++) links[i].fd = -1;
     peer = *endpoint;
-    if (!listens) {
-        connect_at = 0;
-        return;
-    }
+    connect_at = listens ? NEVER : 0;
+    if (!listens) return;
     listener = endpoint_listen(endpoint);
     loop_await(listener, LOOP_LISTENER, 0, EPOLLIN, accept_link);
 }
 
-bool control_tell(const struct session *s, const struct session_change *change) {
+bool control_tell(const struct session *s, const struct session_change *change UNUSED) {
     const struct dp_message message = {.type = DP_STATE_CHANGE, .body.state = s->state};
-    (void)change;
     return s->owner != NO_OWNER && put(&links[s->owner - 1], &message);
 }
 

@@ -13,23 +13,26 @@
 #include <errno.h>
 #include <inttypes.h>
 #include <net/if.h>
+#include <netinet/in.h>
 #include <stdio.h>
 #include <stdlib.h>
 #include <string.h>
 #include <sys/epoll.h>
 #include <sys/socket.h>
+#include <sys/un.h>
 #include <unistd.h>
 
 #define COUNT(array) (sizeof(array) / sizeof *(array))
+#define UNUSED __attribute__((unused))
 
 /* words: lines on standard error, the clocks, and names, addresses and moments as text ----------------------------------- */
 
 enum { ADDRESS_TEXT = 46, MOMENT_TEXT = 28 };
 enum log_level { LOG_ERROR, LOG_WARNING, LOG_INFO, LOG_DEBUG };
 
-/* Lines above this level aren't written. It begins as LOG_INFO. */
+/* Lines above this level aren't written. It begins as LOG_INFO. `log_up_to` sets it by its name; false where there is none. */
 extern enum log_level log_greatest;
-bool log_level_named(const char *name, enum log_level *level);
+bool log_up_to(const char *name);
 
 /* Writes one line: the program's name, the level, and this text. `fail` ends the program behind it, with status 1. */
 void say(enum log_level level, const char *format, ...) __attribute__((format(printf, 2, 3)));
@@ -51,7 +54,12 @@ static inline const char *diagnostic_text(uint32_t diagnostic) { return bfdd_nam
 /* endpoint: addresses of stream sockets, as FRR's option --dplaneaddr has them -------------------------------------------- */
 
 struct endpoint {
-    struct sockaddr_storage address;
+    union {
+        struct sockaddr any;
+        struct sockaddr_un unix_path;
+        struct sockaddr_in v4;
+        struct sockaddr_in6 v6;
+    } at;
     socklen_t length;
 };
 
@@ -74,10 +82,10 @@ typedef void loop_act(uint32_t number, uint64_t now);
 /* Lets time pass up to now, and returns the moment at which that is to be done next; UINT64_MAX is never. */
 typedef uint64_t loop_round(uint64_t now);
 
-/* Makes the loop. SIGTERM, SIGINT and SIGPIPE end it, and SIGHUP and SIGUSR1 go to `take`, as numbers. */
+/* Makes the loop. SIGTERM, SIGINT, SIGPIPE, SIGHUP and SIGUSR1 go to `take`, as numbers. */
 void loop_open(loop_act *take);
 
-/* Awaits these epoll events of a descriptor, and no longer others that were awaited; 0 is none. */
+/* Awaits these epoll events of a descriptor, and no longer others that were awaited; 0 is none. An `act` of NULL does nothing. */
 void loop_await(int fd, enum loop_kind kind, uint32_t number, uint32_t events, loop_act *act);
 
 /* Runs until it is ended. A round lets time pass, sleeps until the next moment or an event, and carries the events out. */
@@ -144,32 +152,23 @@ void record_end(struct record *record);
 
 enum { NO_OWNER = 0, BY_DISCR = 0, BY_PEER, ALL, TABLES };
 
-/* What FRR's protocol doesn't carry: the Auth Type (RFC 5880 section 4.1), 0 for none, and its key. */
-struct session_key {
-    uint32_t type, id, length;
-    uint8_t bytes[20];
-};
-
 /* A session, whose fields are for sessions.c to write. */
 struct session {
     struct session *next[TABLES];
     struct dp_session wanted; /* by its owner */
-    struct session_key key;
+    bfdd_session config;      /* as the engine has it, by commands too, or will have it */
+    uint32_t demand;          /* likewise: 1 in demand mode */
     uint32_t owner;
     struct path path;
-    bfdd_address local, remote;
-    bool is_open;    /* the engine has it */
-    bool is_refused; /* that it couldn't be opened was said */
-    bool is_told;    /* its owner has an account of it; false at first, when the owner takes it as Down */
-    struct dp_state told;
-    uint64_t told_at;
-    uint64_t begun;  /* when it was added */
-    uint64_t starts; /* when its hold time has passed */
-    uint64_t ends;   /* when it is removed, unless a connection takes it: UINT64_MAX while it has one */
-    uint64_t since;  /* when the own state was last changed, or the session opened */
-    uint64_t heard;  /* when the last packet came that the engine took; 0: none did */
-    uint32_t given[4];     /* what the engine has of the values that commands change */
-    uint32_t active;       /* 1, or 0 for passive: as the engine was given it */
+    bool is_open;          /* the engine has it */
+    bool is_refused;       /* that it couldn't be opened was said */
+    struct dp_state told;  /* what its owner has, who takes a new session as Down */
+    uint64_t tell_at;      /* when its owner is told again; UINT64_MAX: never */
+    uint64_t begun;        /* when it was added */
+    uint64_t starts;       /* when its hold time has passed */
+    uint64_t ends;         /* when it is removed, unless a connection takes it: UINT64_MAX while it has one */
+    uint64_t since;        /* when the own state was last changed, or the session opened */
+    uint64_t heard;        /* when the last packet came that the engine took; 0: none did */
     struct dp_state state; /* the own state and what the peer last sent */
     uint8_t peer_state;
     struct dp_counters counters; /* control packets that were taken and sent */
@@ -191,9 +190,9 @@ typedef bool session_teller(const struct session *s, const struct session_change
 /* Begins without a session, with the sockets. `keep` is for how long sessions go on without a connection. */
 void sessions_open(session_teller *tell, uint64_t keep);
 
-/* Adds a session, or changes the one of the same discriminator to these values. What is refused is reported in a line. A key
- * counts for a new session alone; NULL is none. */
-void sessions_add(uint32_t owner, const struct dp_session *wanted, const struct session_key *key, uint64_t now);
+/* Adds a session, or changes the one of the same discriminator to these values. What is refused is reported in a line. A new one
+ * has the Auth Type and the key of `keyed`, which FRR's protocol doesn't carry, and nothing else of it; NULL: none. */
+void sessions_add(uint32_t owner, struct dp_session wanted, const bfdd_session *keyed, uint64_t now);
 
 /* Each session that ends sends AdminDown first: the one of this discriminator, those whose owner's connection was lost, or all. */
 void sessions_remove(uint32_t discr, uint64_t now);
@@ -202,16 +201,22 @@ void sessions_close(uint64_t now);
 
 uint64_t sessions_pass(uint64_t now); /* a loop_round */
 struct session *sessions_find(uint32_t discr);
-void sessions_view(FILE *file, bool is_json, uint64_t now);
 
 /* A session as a line names it, as "session 7 to 10.0.0.2 on eth0", until the next call. */
 const char *session_name(const struct session *s);
 
 /* view: what a session shows, as text for a person and as JSON for a program ------------------------------------------------ */
 
-/* Each writes one line. What the engine has of a session counts for nothing where it isn't open. */
-void view_session(FILE *file, bool is_json, const struct session *s, const bfdd_session_state *shown, uint64_t now);
-void view_change(FILE *file, bool is_json, const struct session *s, const struct session_change *change);
+/* Where lines go, and their form. */
+struct line {
+    FILE *file;
+    bool is_json;
+};
+
+/* Each writes one line, or sessions_view one for each session. What the engine has of a session counts for nothing where it isn't open. */
+void view_session(struct line line, const struct session *s, const bfdd_session_state *shown, uint64_t now);
+void view_change(struct line line, const struct session *s, const struct session_change *change);
+void sessions_view(struct line line, uint64_t now);
 
 /* Listens on a unix socket at this path: whoever connects gets a line of JSON for each of the sessions. */
 void view_listen(const char *path);
@@ -244,8 +249,8 @@ struct program {
 void front_read(int count, char **words, const struct program *program);
 _Noreturn void front_fault(void);
 
-/* Begins without a session, as sessions_open does. SIGUSR1, and front_view, view them to `views`, as JSON or as text. */
-void front_open(session_teller *tell, uint64_t keep, FILE *views, bool is_json);
+/* Begins without a session, as sessions_open does. SIGUSR1, and front_view, view them to `views`. */
+void front_open(session_teller *tell, uint64_t keep, struct line views);
 void front_view(uint64_t now);
 
 /* Runs until SIGTERM or SIGINT, with this in each round too, if it isn't NULL; then ends the sessions. Before that they are viewed

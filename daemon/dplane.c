@@ -5,8 +5,6 @@
  * Nothing is allocated for a packet. */
 #include "daemon.h"
 
-#include <sys/un.h>
-
 static bool listens;
 static uint64_t keep; /* seconds */
 
@@ -30,11 +28,9 @@ static void notify_ready(void) {
     const char *path = getenv("NOTIFY_SOCKET"), text[] = "READY=1";
     struct endpoint systemd;
     if (!path || !endpoint_unix(path, &systemd)) return;
-    struct sockaddr_un *at = (struct sockaddr_un *)&systemd.address;
-    if (*path == '@') at->sun_path[0] = 0;
+    if (*path == '@') systemd.at.unix_path.sun_path[0] = 0;
     int fd = socket(AF_UNIX, SOCK_DGRAM | SOCK_CLOEXEC, 0);
-    if (fd < 0) return;
-    sendto(fd, text, sizeof text - 1, 0, (struct sockaddr *)at, (socklen_t)(offsetof(struct sockaddr_un, sun_path) + strlen(path)));
+    sendto(fd, text, sizeof text - 1, 0, &systemd.at.any, systemd.length);
     close(fd);
 }
 
@@ -42,7 +38,7 @@ int main(int count, char **words) {
     struct endpoint endpoint;
     front_read(count, words, &dplane);
     if (optind + 1 != count || !endpoint_parse(words[optind], &endpoint)) front_fault();
-    front_open(control_tell, keep * 1000000, stderr, false);
+    front_open(control_tell, keep * 1000000, (struct line){stderr, false});
     control_open(&endpoint, listens);
     notify_ready();
     front_run(control_round, false);

@@ -7,11 +7,11 @@
 enum { MOST_CHOICES = 24, COLUMN = 26 };
 
 static const struct program *program;
+static struct choice choices[MOST_CHOICES]; /* the program's own, and then the common ones */
 static const char *folder, *control, *level_name;
-static bool wants_help, wants_version;
+static bool wants_help, wants_version, at_terminal;
 static enum log_level level;
-static FILE *views;
-static bool is_json, at_terminal;
+static struct line views;
 static loop_round *also;
 
 static const struct choice common[] = {
@@ -21,16 +21,9 @@ static const struct choice common[] = {
     {"help", NULL, "this text", .flag = &wants_help},
     {"version", NULL, "the version", .flag = &wants_version}};
 
-/* The choice of this number, of the program's own and then the common ones; NULL behind the last. */
-static const struct choice *choice_of(size_t number) {
-    if (number < program->count) return &program->choices[number];
-    return number - program->count < COUNT(common) ? &common[number - program->count] : NULL;
-}
-
 static void print_usage(FILE *file) {
-    const struct choice *choice;
     fputs(program->above, file);
-    for (size_t i = 0; (choice = choice_of(i)); i++) {
+    for (const struct choice *choice = choices; choice->name; choice++) {
         int width = fprintf(file, "  --%s %s", choice->name, choice->value ? choice->value : "");
         fprintf(file, "%*s%s\n", COLUMN - width, "", choice->help);
     }
@@ -50,13 +43,14 @@ static bool take(const struct choice *choice, const char *value) {
 
 void front_read(int count, char **words, const struct program *it) {
     struct option known[MOST_CHOICES] = {0};
-    const struct choice *choice;
     program = it;
-    for (size_t i = 0; (choice = choice_of(i)); i++)
-        known[i] = (struct option){choice->name, choice->value ? required_argument : no_argument, NULL, (int)i};
+    memcpy(choices, it->choices, it->count * sizeof *choices);
+    memcpy(choices + it->count, common, sizeof common);
+    for (int i = 0; choices[i].name; i++)
+        known[i] = (struct option){choices[i].name, choices[i].value ? required_argument : no_argument, NULL, i};
     for (int option; (option = getopt_long(count, words, "", known, NULL)) >= 0;)
-        if (option == '?' || !take(choice_of((size_t)option), optarg)) front_fault();
-    if (level_name && !log_level_named(level_name, &log_greatest)) front_fault();
+        if (option == '?' || !take(&choices[option], optarg)) front_fault();
+    if (level_name && !log_up_to(level_name)) front_fault();
     level = log_greatest;
     if (wants_help) print_usage(stdout);
     if (wants_version) printf("%s %u.%u\n", program_invocation_short_name, bfdd_version() >> 16, bfdd_version() & 0xffff);
@@ -65,13 +59,12 @@ void front_read(int count, char **words, const struct program *it) {
 
 static void take_signal(uint32_t signal, uint64_t now) {
     if (signal == SIGUSR1) front_view(now);
-    else if (at_terminal) loop_end(); /* which was closed */
+    else if (signal != SIGHUP || at_terminal) loop_end(); /* a terminal that was closed */
     else log_greatest = log_greatest == LOG_DEBUG ? level : LOG_DEBUG;
 }
 
-void front_open(session_teller *tell, uint64_t keep, FILE *file, bool json) {
-    views = file;
-    is_json = json;
+void front_open(session_teller *tell, uint64_t keep, struct line line) {
+    views = line;
     at_terminal = isatty(STDIN_FILENO);
     signal(SIGCHLD, SIG_IGN); /* nobody waits for a child */
     if (folder) record_in(folder);
@@ -81,8 +74,8 @@ void front_open(session_teller *tell, uint64_t keep, FILE *file, bool json) {
 }
 
 void front_view(uint64_t now) {
-    sessions_view(views, is_json, now);
-    fflush(views);
+    sessions_view(views, now);
+    fflush(views.file);
 }
 
 static uint64_t pass_time(uint64_t now) {

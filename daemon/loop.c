@@ -22,17 +22,10 @@ void loop_await(int fd, enum loop_kind kind, uint32_t number, uint32_t events, l
 
 void loop_end(void) { is_ended = true; }
 
-static void take_signals(uint32_t number, uint64_t now) {
+static void take_signals(uint32_t number UNUSED, uint64_t now) {
     struct signalfd_siginfo signal;
-    (void)number;
-    while (read(signals, &signal, sizeof signal) == sizeof signal) {
-        if (signal.ssi_signo == SIGHUP || signal.ssi_signo == SIGUSR1) take_signal(signal.ssi_signo, now);
-        else loop_end();
-    }
+    while (read(signals, &signal, sizeof signal) == sizeof signal) take_signal(signal.ssi_signo, now);
 }
-
-/* The timer only ends the sleep. */
-static void awake(uint32_t number, uint64_t now) { (void)number, (void)now; }
 
 void loop_open(loop_act *take) {
     static const int taken[] = {SIGTERM, SIGINT, SIGPIPE, SIGHUP, SIGUSR1};
@@ -45,7 +38,7 @@ void loop_open(loop_act *take) {
     signals = signalfd(-1, &set, SFD_NONBLOCK | SFD_CLOEXEC);
     timer = timerfd_create(CLOCK_MONOTONIC, TFD_NONBLOCK | TFD_CLOEXEC);
     loop_await(signals, LOOP_SIGNALS, 0, EPOLLIN, take_signals);
-    loop_await(timer, LOOP_TIMER, 0, EPOLLIN, awake);
+    loop_await(timer, LOOP_TIMER, 0, EPOLLIN, NULL); /* which only ends the sleep */
 }
 
 pid_t loop_fork(void) {
@@ -56,18 +49,17 @@ pid_t loop_fork(void) {
     return child;
 }
 
-/* Sets the timer for this moment: it has no event before, and then one until it is set again. */
+/* Sets the timer for this moment: it has no event before, and then one until it is set again. (A time of 0 would stop it.) */
 static void set_timer(uint64_t moment) {
-    uint64_t now = clock_now(), left = moment > now ? moment - now : 0;
+    uint64_t now = clock_now(), left = moment > now ? moment - now : 1;
     struct itimerspec time = {.it_value = {(time_t)(left / 1000000), (long)(left % 1000000) * 1000}};
-    if (left == 0) time.it_value.tv_nsec = 1; /* 0 would stop it */
     timerfd_settime(timer, 0, &time, NULL);
 }
 
 static void carry_out(const struct epoll_event *events, int count, bool are_packets) {
     for (int i = 0; i < count; i++) {
         enum loop_kind kind = (enum loop_kind)(events[i].data.u64 >> 32);
-        if ((kind == LOOP_PACKETS) == are_packets) acts[kind]((uint32_t)events[i].data.u64, clock_now());
+        if ((kind == LOOP_PACKETS) == are_packets && acts[kind]) acts[kind]((uint32_t)events[i].data.u64, clock_now());
     }
 }
 

@@ -7,17 +7,16 @@
 
 #include <arpa/inet.h>
 #include <fcntl.h>
-#include <netinet/in.h>
 #include <signal.h>
 #include <sys/random.h>
 
-enum { OWNER = 1, WORD = 48, TYPED = 256 };
+enum { OWNER = 1, WORD = 48, TYPED = 256, MOST_ENTRIES = 65536 /* as many as a table has */ };
 
-/* A session that is to be run. */
+/* The sessions that are to be run. */
 static struct entry {
     struct dp_session wanted;
-    struct session_key key;
-} *entries;
+    bfdd_session keyed;
+} entries[MOST_ENTRIES];
 static size_t count_entries;
 
 static bool is_multihop, is_passive, is_json;
@@ -49,25 +48,19 @@ static const struct program peer = {
 /* Sessions ------------------------------------------------------------------------------------------------------------- */
 
 /* Reads TYPE:ID:KEYFILE. A line's end behind the key isn't part of it. */
-static bool read_auth(struct session_key *key) {
-    uint8_t bytes[sizeof key->bytes + 2];
+static bool read_auth(bfdd_session *keyed) {
+    uint8_t bytes[sizeof keyed->key + 2];
     int end = 0;
-    if (sscanf(auth, "%1" SCNu32 ":%3" SCNu32 ":%n", &key->type, &key->id, &end) != 2 || end == 0) return false;
-    if (key->type < 1 || key->type > 5 || key->id > 255) return false;
+    if (sscanf(auth, "%1" SCNu32 ":%3" SCNu32 ":%n", &keyed->auth, &keyed->key_id, &end) != 2 || end == 0) return false;
+    if (keyed->auth < 1 || keyed->auth > 5 || keyed->key_id > 255) return false;
     FILE *file = fopen(auth + end, "re");
     if (!file) fail(auth + end, strerror(errno));
-    key->length = (uint32_t)fread(bytes, 1, sizeof bytes, file);
+    keyed->key_len = (uint32_t)fread(bytes, 1, sizeof bytes, file);
     fclose(file);
-    if (key->length > 0 && bytes[key->length - 1] == '\n') key->length--;
-    if (key->length < 1 || key->length > (key->type < 4 ? 16 : 20)) return false;
-    memcpy(key->bytes, bytes, key->length);
+    if (keyed->key_len > 0 && bytes[keyed->key_len - 1] == '\n') keyed->key_len--;
+    if (keyed->key_len < 1 || keyed->key_len > (keyed->auth < 4 ? 16 : 20)) return false;
+    memcpy(keyed->key, bytes, keyed->key_len);
     return true;
-}
-
-static void add_entry(const struct entry *entry) {
-    entries = realloc(entries, (count_entries + 1) * sizeof *entries);
-    if (!entries) fail("the sessions", strerror(ENOMEM));
-    entries[count_entries++] = *entry;
 }
 
 /* The session of the options, and of two addresses of one family. */
@@ -81,10 +74,10 @@ static bool take_words(const char *local, const char *remote) {
     if (inet_pton(family, local, s->source) != 1 || inet_pton(family, remote, s->destination) != 1) return false;
     if (family == AF_INET6 && IN6_IS_ADDR_LINKLOCAL((struct in6_addr *)s->destination) && !interface)
         fail(remote, "a link-local address needs --interface");
-    if (auth && !read_auth(&entry.key)) return false;
+    if (auth && !read_auth(&entry.keyed)) return false;
     while (s->discr == 0)
         if (getrandom(&s->discr, sizeof s->discr, 0) != sizeof s->discr) fail("getrandom", strerror(errno));
-    add_entry(&entry);
+    entries[count_entries++] = entry;
     return true;
 }
 
@@ -96,14 +89,14 @@ static size_t read_hex(const char *text, uint8_t *bytes, size_t room) {
 
 /* The flag of an address of a packet file, which is written in hexadecimal where it is one of IPv6. */
 static uint32_t read_address(const char *text, uint8_t bytes[16]) {
-    return inet_pton(AF_INET, text, bytes) == 1 || read_hex(text, bytes, 16) < 16 ? 0 : DP_IPV6;
+    return inet_pton(AF_INET, text, bytes) != 1 && read_hex(text, bytes, 16) == 16 ? DP_IPV6 : 0;
 }
 
 /* A line of a table, which the engine has found to be one. */
 static void take_line(const char *line) {
     struct entry entry = {0};
     struct dp_session *s = &entry.wanted;
-    struct session_key key = {0};
+    bfdd_session keyed = {0};
     char hops[8], local[WORD], remote[WORD], mode[8], secret[WORD];
     uint32_t detect, echo, discr;
     if (sscanf(line, "p2p %" SCNu32 " %7s %" SCNu32 " %47s %47s %7s %" SCNu32 " %" SCNu32 " %" SCNu32 " %" SCNu32, &s->discr, hops,
@@ -113,11 +106,11 @@ static void take_line(const char *line) {
                    | (echo ? DP_ECHO : 0u);
         s->mult = (uint8_t)detect;
         if (s->ifindex && !if_indextoname(s->ifindex, s->ifname)) fail(line, "no interface has this number");
-        add_entry(&entry);
-    } else if (sscanf(line, "auth %" SCNu32 " %" SCNu32 " %" SCNu32 " %47s", &discr, &key.type, &key.id, secret) == 4) {
-        key.length = (uint32_t)read_hex(secret, key.bytes, sizeof key.bytes);
+        entries[count_entries++] = entry;
+    } else if (sscanf(line, "auth %" SCNu32 " %" SCNu32 " %" SCNu32 " %47s", &discr, &keyed.auth, &keyed.key_id, secret) == 4) {
+        keyed.key_len = (uint32_t)read_hex(secret, keyed.key, sizeof keyed.key);
         for (size_t i = 0; i < count_entries; i++)
-            if (entries[i].wanted.discr == discr) entries[i].key = key;
+            if (entries[i].wanted.discr == discr) entries[i].keyed = keyed;
     } else if (strncmp(line, "bfd ", 4) != 0 && strcmp(line, "run") != 0 && strcmp(line, "end") != 0) {
         fail(line, "only point-to-point sessions with one key are run");
     }
@@ -148,8 +141,8 @@ static void take_table(const char *path) {
 static void run_command(const struct session *s, const struct session_change *change) {
     char time[MOMENT_TEXT], local[ADDRESS_TEXT], remote[ADDRESS_TEXT];
     const char *const variables[][2] = {
-        {"BFDD_TIME", moment_text(change->moment, time)}, {"BFDD_LOCAL", address_text(&s->local, local)},
-        {"BFDD_PEER", address_text(&s->remote, remote)}, {"BFDD_INTERFACE", s->wanted.ifname}, {"BFDD_WAS", state_text(change->was)},
+        {"BFDD_TIME", moment_text(change->moment, time)}, {"BFDD_LOCAL", address_text(&s->config.local, local)},
+        {"BFDD_PEER", address_text(&s->config.remote, remote)}, {"BFDD_INTERFACE", s->wanted.ifname}, {"BFDD_WAS", state_text(change->was)},
         {"BFDD_STATE", state_text(change->state)}, {"BFDD_DIAGNOSTIC", diagnostic_text(change->diagnostic)}, {"BFDD_CAUSE", change->cause}};
     pid_t child = loop_fork();
     if (child < 0) say(LOG_ERROR, "%s: %s", command, strerror(errno));
@@ -163,15 +156,14 @@ static void run_command(const struct session *s, const struct session_change *ch
 }
 
 static bool report_change(const struct session *s, const struct session_change *change) {
-    if (change) view_change(stdout, is_json, s, change);
+    if (change) view_change((struct line){stdout, is_json}, s, change);
     if (change && command) run_command(s, change);
     return true;
 }
 
 /* A line that was typed at the terminal. */
-static void take_key(uint32_t number, uint64_t now) {
+static void take_key(uint32_t number UNUSED, uint64_t now) {
     char typed[TYPED];
-    (void)number;
     if (read(STDIN_FILENO, typed, sizeof typed) > 0) front_view(now);
     else loop_await(STDIN_FILENO, LOOP_KEY, 0, 0, take_key);
 }
@@ -183,8 +175,8 @@ int main(int count, char **words) {
     front_read(count, words, &peer);
     if (optind + 1 == count) take_table(words[optind]);
     else if (optind + 2 != count || !take_words(words[optind], words[optind + 1])) front_fault();
-    front_open(report_change, 0, stdout, is_json);
-    for (size_t i = 0; i < count_entries; i++) sessions_add(OWNER, &entries[i].wanted, &entries[i].key, clock_now());
+    front_open(report_change, 0, (struct line){stdout, is_json});
+    for (size_t i = 0; i < count_entries; i++) sessions_add(OWNER, entries[i].wanted, &entries[i].keyed, clock_now());
     if (isatty(STDIN_FILENO)) loop_await(STDIN_FILENO, LOOP_KEY, 0, EPOLLIN, take_key);
     front_run(NULL, true);
     return 0;

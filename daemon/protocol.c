@@ -1,7 +1,6 @@
 /* FRR's data plane protocol: see protocol.h. */
 #include "protocol.h"
 
-#include <arpa/inet.h>
 #include <string.h>
 
 enum { VERSION = 1, MOST_NUMBERS = 8 };
@@ -41,9 +40,8 @@ static const struct {
 _Static_assert(sizeof(struct dp_session) == DP_SESSION_LENGTH - DP_HEADER, "the layout of a session");
 _Static_assert(sizeof(struct dp_counters) == 72 && sizeof(struct dp_state) == 28, "the layouts of what is written");
 
-/* Turns these numbers of a message from the one order to the other. */
+/* Turns these numbers of a message from the one order to the other. The machine's isn't the network's: the library is for x86-64 alone. */
 static void turn(struct dp_message *message, const struct number *numbers, size_t count) {
-    if (htons(1) == 1) return; /* the machine's order is the network's */
     for (size_t i = 0; i < count; i++) {
         uint8_t *bytes = (uint8_t *)message + numbers[i].place, copy[8];
         memcpy(copy, bytes, numbers[i].bytes);

@@ -20,7 +20,7 @@ enum dp_length { DP_HEADER = 8, DP_SESSION_LENGTH = 140, DP_LONGEST_WRITTEN = 80
 enum dp_session_flag { DP_MULTIHOP = 1, DP_DEMAND = 2, DP_C_BIT = 4, DP_ECHO = 8, DP_IPV6 = 16, DP_PASSIVE = 32, DP_SHUTDOWN = 64 };
 
 /* The peer's flags in a change of state. */
-enum dp_peer_flag { DP_PEER_C = 1, DP_PEER_DEMAND = 2, DP_PEER_MULTIPOINT = 4 };
+enum dp_peer_flag { DP_PEER_C = 1, DP_PEER_DEMAND = 2 };
 
 /* Times in microseconds. */
 struct dp_echo {

@@ -1,11 +1,10 @@
 /* record: the life of a session as a packet file. */
 #include "daemon.h"
 
-#include <fcntl.h>
 #include <sys/resource.h>
 #include <sys/stat.h>
 
-enum { MOST_EVENTS = 200000, MOST_PAYLOAD = 256, PATH = 4096 };
+enum { MOST_EVENTS = 200000, PATH = 4096 };
 
 static const char *folder;
 
@@ -31,10 +30,7 @@ static FILE *create(const char *path) {
 
 static void put_bytes(FILE *file, const uint8_t *bytes, size_t length) {
     if (length == 0) fputc('-', file);
-    for (size_t i = 0; i < length; i++) {
-        fputc("0123456789abcdef"[bytes[i] >> 4], file);
-        fputc("0123456789abcdef"[bytes[i] & 15], file);
-    }
+    for (size_t i = 0; i < length; i++) fprintf(file, "%02x", bytes[i]);
 }
 
 static void put_address(FILE *file, const bfdd_address *address) {
@@ -99,7 +95,7 @@ void record_packet(struct record *record, const bfdd_arrival *arrival) {
     put_address(record->file, &packet->src);
     put_address(record->file, &packet->dst);
     fprintf(record->file, "%u ", packet->ttl);
-    put_bytes(record->file, arrival->payload, arrival->length < MOST_PAYLOAD ? arrival->length : MOST_PAYLOAD);
+    put_bytes(record->file, arrival->payload, arrival->length);
     fputc('\n', record->file);
 }
 

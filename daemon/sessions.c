@@ -6,17 +6,12 @@
  * is tried again after each packet of the session and each second. */
 #include "daemon.h"
 
-#include <arpa/inet.h>
 #include <sys/random.h>
 
-enum { BUCKETS = 4096, CHANGEABLE = 4, NAME = 160, CAUSE = 160, CHANGE = 480 };
+enum { BUCKETS = 4096, NAME = 160, CAUSE = 160, CHANGE = 480 };
 enum { LEAST_PACKET = 24, LEAST_INTERVAL = 10000, GREATEST_INTERVAL = 60000000 };
 static const uint64_t SECOND = 1000000, TELL_AGAIN = 5000000;
-static const uint32_t changeable[CHANGEABLE] = {BFDD_TX, BFDD_RX, BFDD_MULT, BFDD_DEMAND};
 static const uint8_t no_address[16];
-
-/* What the event was that an output came of. */
-enum event { PACKET, TICK, SHUT, ENABLED, ENDED };
 
 static bfdd_handle engine = BFDD_HANDLE_INIT;
 static uint64_t ticked; /* the engine's last tick, milliseconds */
@@ -42,7 +37,7 @@ struct session *sessions_find(uint32_t discr) {
 
 /* Puts a session into the tables, or takes it out of them. */
 static void enter(struct session *s, bool is_in) {
-    struct session **buckets[TABLES] = {bucket_of_discr(s->wanted.discr), bucket_of_peer(&s->remote), &all};
+    struct session **buckets[TABLES] = {bucket_of_discr(s->wanted.discr), bucket_of_peer(&s->config.remote), &all};
     for (int table = 0; table < TABLES; table++) {
         struct session **at = buckets[table];
         while (!is_in && *at != s) at = &(*at)->next[table];
@@ -51,15 +46,20 @@ static void enter(struct session *s, bool is_in) {
     }
 }
 
-static uint32_t get32(const uint8_t *at) {
-    uint32_t number;
-    memcpy(&number, at, sizeof number);
-    return ntohl(number);
-}
+static uint32_t get32(const uint8_t *at) { return (uint32_t)at[0] << 24 | (uint32_t)at[1] << 16 | (uint32_t)at[2] << 8 | at[3]; }
 
 static bool is_multihop(const struct session *s) { return (s->wanted.flags & DP_MULTIHOP) != 0; }
 
+static bool is_active(const struct session *s) { return (s->wanted.flags & DP_PASSIVE) == 0; }
+
 static bool is_same_address(const bfdd_address *a, const bfdd_address *b) { return memcmp(a, b, sizeof *a) == 0; }
+
+/* One of the addresses of a session in FRR's protocol. */
+static bfdd_address address_of(const struct dp_session *wanted, const uint8_t bytes[16]) {
+    bfdd_address address = {.family = wanted->flags & DP_IPV6 ? 6 : 4};
+    memcpy(address.bytes, bytes, address.family == 4 ? 4 : 16);
+    return address;
+}
 
 /* Whether a packet at a socket of this device may be for a session. */
 static bool may_be_for(const struct session *s, const bfdd_packet *packet, uint32_t device) {
@@ -67,22 +67,20 @@ static bool may_be_for(const struct session *s, const bfdd_packet *packet, uint3
     return s->is_open && is_its_interface && s->path.device == device && is_multihop(s) == (packet->port == BFDD_PORT_MULTI);
 }
 
-/* The session that a packet is for, by its Your Discriminator, or where that is 0 by addresses and interface. The engine
- * selects once more: a fault here can only lose a packet. */
+/* The session that a packet is for, by its Your Discriminator, or where that is 0 by addresses and interface, before one of any
+ * interface. The engine selects once more: a fault here can only lose a packet. */
 static struct session *find_for(const bfdd_arrival *arrival, uint32_t device) {
     const bfdd_packet *packet = &arrival->packet;
-    struct session *any = NULL;
+    struct session *found = NULL;
     if (arrival->length < LEAST_PACKET) return NULL;
     uint32_t discr = get32(arrival->payload + 8);
     struct session *named = sessions_find(discr);
     if (discr) return named && may_be_for(named, packet, device) ? named : NULL;
     for (struct session *s = *bucket_of_peer(&packet->src); s; s = s->next[BY_PEER]) {
-        if (!is_same_address(&s->remote, &packet->src) || !is_same_address(&s->local, &packet->dst)) continue;
-        if (!may_be_for(s, packet, device)) continue;
-        if (s->path.ifindex) return s;
-        any = s;
+        bool is_between = is_same_address(&s->config.remote, &packet->src) && is_same_address(&s->config.local, &packet->dst);
+        if (is_between && may_be_for(s, packet, device) && (!found || s->path.ifindex)) found = s;
     }
-    return any;
+    return found;
 }
 
 /* Telling -------------------------------------------------------------------------------------------------------------- */
@@ -90,26 +88,26 @@ static struct session *find_for(const bfdd_arrival *arrival, uint32_t device) {
 const char *session_name(const struct session *s) {
     static char name[NAME];
     char peer[ADDRESS_TEXT];
-    snprintf(name, sizeof name, "session %" PRIu32 " to %s%s%s", s->wanted.discr, address_text(&s->remote, peer),
+    snprintf(name, sizeof name, "session %" PRIu32 " to %s%s%s", s->wanted.discr, address_text(&s->config.remote, peer),
              is_multihop(s) ? " multihop" : s->wanted.ifname[0] ? " on " : "", is_multihop(s) ? "" : s->wanted.ifname);
     return name;
 }
 
-/* Tells the owner the state and the peer's values. Where there is no room, the next second tries again. */
+/* Tells the owner the state and the peer's values: again in the next second where there was no room, and Up every few seconds, since FRR
+ * sets a session Down on its own side when one of several users leaves it. */
 static void tell(struct session *s, const struct session_change *change, uint64_t now) {
-    s->told_at = now;
-    s->is_told = teller(s, change);
-    if (s->is_told) s->told = s->state;
+    bool is_told = teller(s, change), is_up = s->state.state == BFDD_UP;
+    if (is_told) s->told = s->state;
+    s->tell_at = !is_told ? now : is_up ? now + TELL_AGAIN : UINT64_MAX;
 }
 
-/* Why a state changed. An expiry may be found by any event. */
-static const char *cause_of(const struct session *s, const bfdd_output *out, enum event event, uint64_t now, char text[CAUSE]) {
-    static const char *const causes[] = {[SHUT] = "shut down here", [ENABLED] = "no longer shut down here", [ENDED] = "ended here"};
+/* Why a state changed: an expiry, which any event may find, or the command, in these words, or what the peer sent. */
+static const char *cause_of(const struct session *s, const bfdd_output *out, const char *words, uint64_t now, char text[CAUSE]) {
     uint8_t diagnostic = s->state.diagnostic;
-    if (event == TICK || (out->state == BFDD_DOWN && out->diag == 1))
+    if (out->state == BFDD_DOWN && out->diag == 1)
         snprintf(text, CAUSE, "no packet came for %.3f ms", (double)(now - s->heard) / 1000);
-    else if (event >= SHUT)
-        return causes[event];
+    else if (words)
+        return words;
     else if (diagnostic == 0)
         snprintf(text, CAUSE, "the peer sent %s", state_text(s->peer_state));
     else
@@ -117,9 +115,9 @@ static const char *cause_of(const struct session *s, const bfdd_output *out, enu
     return text;
 }
 
-static void changed(struct session *s, const bfdd_output *out, enum event event, uint64_t now) {
+static void changed(struct session *s, const bfdd_output *out, const char *words, uint64_t now) {
     char cause[CAUSE], line[CHANGE];
-    struct session_change change = {now, out->was, out->state, out->diag, cause_of(s, out, event, now, cause), line};
+    struct session_change change = {now, out->was, out->state, out->diag, cause_of(s, out, words, now, cause), line};
     snprintf(line, sizeof line, "%s: %s to %s, diagnostic %u (%s): %s", session_name(s), state_text(out->was), state_text(out->state),
              out->diag, diagnostic_text(out->diag), change.cause);
     say(LOG_INFO, "%s", line);
@@ -132,50 +130,54 @@ static void changed(struct session *s, const bfdd_output *out, enum event event,
 
 /* Events --------------------------------------------------------------------------------------------------------------- */
 
-/* An output goes to the session that its discriminator names. */
-static void take_output(const bfdd_output *out, enum event event, uint64_t now) {
+/* An output goes to the session that its discriminator names: who removes a session reads its outputs first. */
+static void take_output(const bfdd_output *out, const char *words, uint64_t now) {
     struct session *s = sessions_find(out->discr);
-    if (!s) return; /* never: who removes a session reads its outputs first */
-    if (out->kind == BFDD_CHANGED) return changed(s, out, event, now);
+    if (out->kind == BFDD_CHANGED) return changed(s, out, words, now);
     s->counters.packets_out++;
     s->counters.bytes_out += out->len;
     sockets_send(out, &s->path);
 }
 
-/* Passes on what an event gave. */
-static void take_outputs(enum event event, uint64_t now) {
+/* Passes on what an event gave. The words say what a command does; NULL: it was none, or none that changes the state. */
+static void take_outputs(const char *words, uint64_t now) {
     static bfdd_output outs[BFDD_MANY] = {[0 ... BFDD_MANY - 1] = BFDD_OUTPUT_INIT};
     size_t count = 0;
     while (bfdd_outputs(&engine, outs, BFDD_MANY, &count) == BFDD_DONE)
-        for (size_t i = 0; i < count; i++) take_output(&outs[i], event, now);
+        for (size_t i = 0; i < count; i++) take_output(&outs[i], words, now);
 }
 
-/* Gives a command. False where the engine refuses it for a cause that passes. */
-static bool command(struct session *s, uint32_t verb, uint32_t value, enum event event, uint64_t now) {
+/* Gives a command. False where the engine refuses it, as while a Poll Sequence runs. */
+static bool command(struct session *s, uint32_t verb, uint32_t value, const char *words, uint64_t now) {
     bfdd_answered answer = BFDD_ANSWERED_INIT;
     if (bfdd_command(&engine, now, s->wanted.discr, verb, value) != BFDD_DONE) return false;
     record_command(&s->record, now, s->wanted.discr, verb, value);
     bfdd_answer(&engine, &answer);
-    take_outputs(event, now);
-    return answer.kind != BFDD_REFUSED || answer.code == BFDD_WRONG_STATE;
+    take_outputs(words, now);
+    return answer.kind == BFDD_HANDLED;
 }
 
 /* Gives the engine what the owner has changed, until a Poll Sequence makes it refuse. */
 static void give_changes(struct session *s, uint64_t now) {
-    const uint32_t values[CHANGEABLE] = {s->wanted.tx, s->wanted.rx, s->wanted.mult, (s->wanted.flags & DP_DEMAND) != 0};
+    const struct { uint32_t verb, value, *had; } values[] = {
+        {BFDD_TX, s->wanted.tx, &s->config.tx}, {BFDD_RX, s->wanted.rx, &s->config.rx}, {BFDD_MULT, s->wanted.mult, &s->config.mult},
+        {BFDD_DEMAND, (s->wanted.flags & DP_DEMAND) != 0, &s->demand}};
     bool is_shut = s->state.state == BFDD_ADMIN_DOWN, wants_shut = (s->wanted.flags & DP_SHUTDOWN) != 0;
     if (!s->is_open) return;
-    for (size_t i = 0; i < CHANGEABLE; i++)
-        if (s->given[i] != values[i] && command(s, changeable[i], values[i], TICK, now)) s->given[i] = values[i];
-    if (is_shut != wants_shut) command(s, wants_shut ? BFDD_DISABLE : BFDD_ENABLE, 0, wants_shut ? SHUT : ENABLED, now);
+    for (size_t i = 0; i < COUNT(values); i++)
+        if (*values[i].had != values[i].value && command(s, values[i].verb, values[i].value, NULL, now)) *values[i].had = values[i].value;
+    if (!is_shut && wants_shut) command(s, BFDD_DISABLE, 0, "shut down here", now);
+    if (is_shut && !wants_shut) command(s, BFDD_ENABLE, 0, "no longer shut down here", now);
 }
 
-/* Keeps what the owner is told of the peer, from a control packet that the engine has taken (RFC 5880 section 4.1). */
-static void keep_peer(struct session *s, const uint8_t *payload) {
-    uint32_t c = payload[1] >> 3 & 1u, d = payload[1] >> 1 & 1u, m = payload[1] & 1u;
+/* Keeps what the owner is told of the peer, from a control packet that the engine has taken (RFC 5880 section 4.1), and counts it. */
+static void keep_peer(struct session *s, const bfdd_arrival *arrival) {
+    const uint8_t *payload = arrival->payload;
+    s->counters.packets_in++;
+    s->counters.bytes_in += arrival->length;
     s->peer_state = payload[1] >> 6;
     s->state.diagnostic = payload[0] & 31;
-    s->state.peer_flags = c * DP_PEER_C | d * DP_PEER_DEMAND | m * DP_PEER_MULTIPOINT;
+    s->state.peer_flags = (payload[1] & 8 ? DP_PEER_C : 0u) | (payload[1] & 2 ? DP_PEER_DEMAND : 0u);
     s->state.peer_mult = payload[2];
     s->state.peer_discr = get32(payload + 4);
     s->state.peer_tx = get32(payload + 12);
@@ -207,14 +209,9 @@ static void handled(struct session *s, const bfdd_arrival *arrival, const bfdd_a
     uint64_t moment = arrival->packet.moment;
     bool is_taken = answer->kind == BFDD_HANDLED;
     record_packet(&s->record, arrival);
-    if (is_taken) {
-        keep_peer(s, arrival->payload);
-        s->counters.packets_in++;
-        s->counters.bytes_in += arrival->length;
-    } else {
-        say_dropped(arrival, answer->name);
-    }
-    if (is_last) take_outputs(PACKET, moment);
+    if (is_taken) keep_peer(s, arrival);
+    else say_dropped(arrival, answer->name);
+    if (is_last) take_outputs(NULL, moment);
     if (is_taken) s->heard = moment;
     if (s->state.state == BFDD_UP && memcmp(&s->told, &s->state, sizeof s->told) != 0) tell(s, NULL, moment);
 }
@@ -248,22 +245,22 @@ static void refuse(struct session *s, const char *cause) {
 /* Gives the session to the engine. A session's interface is a number of 16 bits there: two whose addresses are the same, and whose
  * interfaces differ by a multiple of 65,536, can't be had at once. */
 static void add_to_engine(struct session *s, uint64_t now) {
-    bfdd_session config = {.size = sizeof config, .kind = is_multihop(s) ? BFDD_MULTIHOP : BFDD_SINGLE_HOP, .discr = s->wanted.discr,
-                           .other = 1, .iface = (uint16_t)s->path.ifindex, .local = s->local, .remote = s->remote,
-                           .active = (s->wanted.flags & DP_PASSIVE) == 0, .tx = s->wanted.tx, .rx = s->wanted.rx,
-                           .mult = s->wanted.mult, .auth = s->key.type, .key_id = s->key.id, .key_len = s->key.type ? s->key.length : 1};
+    bfdd_session *config = &s->config;
     char interface[IF_NAMESIZE];
-    memcpy(config.key, s->key.bytes, sizeof config.key);
-    if (getrandom(&config.seed, sizeof config.seed, 0) != sizeof config.seed) config.seed = (uint32_t)now;
-    uint32_t code = bfdd_add(&engine, &config);
+    config->iface = (uint16_t)s->path.ifindex;
+    config->active = is_active(s);
+    config->tx = s->wanted.tx;
+    config->rx = s->wanted.rx;
+    config->mult = s->wanted.mult;
+    s->demand = 0;
+    if (getrandom(&config->seed, sizeof config->seed, 0) != sizeof config->seed) config->seed = (uint32_t)now;
+    uint32_t code = bfdd_add(&engine, config);
     if (code == BFDD_TAKEN_ADDRESSES) return refuse(s, "another session has its addresses");
     if (code != BFDD_DONE) return refuse(s, bfdd_name(BFDD_NAME_CODE, code));
     s->is_open = true;
-    s->active = config.active;
     s->since = now;
     s->state = (struct dp_state){.discr = s->wanted.discr, .state = BFDD_DOWN};
-    memcpy(s->given, (const uint32_t[CHANGEABLE]){config.tx, config.rx, config.mult, 0}, sizeof s->given);
-    record_begin(&s->record, &config, now);
+    record_begin(&s->record, config, now);
     const char *device = s->path.device ? if_indextoname(s->path.device, interface) : NULL;
     say(LOG_INFO, "%s begins%s%s", session_name(s), device ? ", by sockets bound to " : "", device ? device : "");
     give_changes(s, now);
@@ -272,14 +269,13 @@ static void add_to_engine(struct session *s, uint64_t now) {
 /* Opens a session whose hold time has passed. Where the system has no route to the peer, the next second tries again. */
 static void open_session(struct session *s, uint64_t now) {
     bool has_source = memcmp(s->wanted.source, no_address, sizeof no_address) != 0;
-    s->local.family = s->remote.family;
-    memcpy(s->local.bytes, s->wanted.source, s->local.family == 4 ? 4 : 16);
+    s->config.local = address_of(&s->wanted, s->wanted.source);
     if (!sockets_find(is_multihop(s), s->wanted.ifindex, &s->path)) return refuse(s, strerror(errno));
-    if (has_source || sockets_source(&s->remote, &s->path, &s->local)) add_to_engine(s, now);
+    if (has_source || sockets_source(&s->config.remote, &s->path, &s->config.local)) add_to_engine(s, now);
 }
 
 static void remove_from_engine(struct session *s) {
-    if (s->is_open) bfdd_remove(&engine, s->wanted.discr);
+    bfdd_remove(&engine, s->wanted.discr); /* if it is there */
     s->is_open = false;
     record_end(&s->record);
 }
@@ -287,19 +283,18 @@ static void remove_from_engine(struct session *s) {
 /* A session ends, and sends AdminDown once. */
 static void end_session(struct session *s, uint64_t now) {
     s->owner = NO_OWNER; /* FRR has ended it, and is told no more */
-    if (s->is_open) command(s, BFDD_DISABLE, 0, ENDED, now);
+    if (s->is_open) command(s, BFDD_DISABLE, 0, "ended here", now);
     say(LOG_INFO, "%s ends", session_name(s));
 }
 
 static void free_session(struct session *s) {
-    record_end(&s->record);
+    remove_from_engine(s);
     enter(s, false);
     free(s);
 }
 
 static void close_session(struct session *s, uint64_t now) {
     end_session(s, now);
-    remove_from_engine(s);
     free_session(s);
 }
 
@@ -321,28 +316,30 @@ static bool is_same_session(const struct dp_session *a, const struct dp_session 
            && !memcmp(a->destination, b->destination, 16);
 }
 
-static void add_new(uint32_t owner, const struct dp_session *wanted, const struct session_key *key, uint64_t now) {
-    struct session *s = calloc(1, sizeof *s), *rival;
+static void add_new(uint32_t owner, const struct dp_session *wanted, const bfdd_session *keyed, uint64_t now) {
+    struct session *s = calloc(1, sizeof *s);
     if (!s) return say(LOG_ERROR, "session %" PRIu32 " refused: no memory", wanted->discr);
     s->wanted = *wanted;
-    if (key) s->key = *key;
+    if (keyed) s->config = *keyed;
+    s->config.size = sizeof s->config;
+    s->config.kind = is_multihop(s) ? BFDD_MULTIHOP : BFDD_SINGLE_HOP;
+    s->config.discr = wanted->discr;
+    s->config.remote = address_of(wanted, wanted->destination);
     s->owner = owner;
-    s->ends = UINT64_MAX;
+    s->ends = s->tell_at = UINT64_MAX;
     s->begun = now;
     s->starts = now + (uint64_t)wanted->hold_ms * 1000;
     if (s->starts < next_chores) next_chores = s->starts;
-    s->remote.family = (wanted->flags & DP_IPV6) ? 6 : 4;
-    memcpy(s->remote.bytes, wanted->destination, s->remote.family == 4 ? 4 : 16);
     s->state = (struct dp_state){.discr = wanted->discr, .state = BFDD_DOWN};
-    for (rival = *bucket_of_peer(&s->remote); rival && !is_same_session(&rival->wanted, wanted);) rival = rival->next[BY_PEER];
+    struct session *rival = *bucket_of_peer(&s->config.remote);
+    while (rival && !is_same_session(&rival->wanted, wanted)) rival = rival->next[BY_PEER];
     if (rival) close_session(rival, now); /* FRR has it under another discriminator now */
     enter(s, true);
     if (wanted->flags & DP_ECHO) say(LOG_WARNING, "%s: echo packets aren't sent here; control packets alone watch it", session_name(s));
     if (s->starts <= now) open_session(s, now);
 }
 
-void sessions_add(uint32_t owner, const struct dp_session *given, const struct session_key *key, uint64_t now) {
-    struct dp_session wanted = *given;
+void sessions_add(uint32_t owner, struct dp_session wanted, const bfdd_session *keyed, uint64_t now) {
     struct session *s = sessions_find(wanted.discr);
     const char *fault = fault_of(&wanted);
     if (wanted.ifindex == 0 && wanted.ifname[0]) wanted.ifindex = if_nametoindex(wanted.ifname);
@@ -351,7 +348,7 @@ void sessions_add(uint32_t owner, const struct dp_session *given, const struct s
         close_session(s, now);
         s = NULL;
     }
-    if (!s) return add_new(owner, &wanted, key, now);
+    if (!s) return add_new(owner, &wanted, keyed, now);
     bool is_taken = s->owner != owner;
     s->wanted = wanted;
     s->owner = owner;
@@ -379,23 +376,21 @@ void sessions_lost(uint32_t owner, uint64_t now) {
 
 /* Time ----------------------------------------------------------------------------------------------------------------- */
 
-/* What a second may have changed for a session: a route to its peer, its mode, room to tell its owner. FRR sets a session Down on
- * its own side when one of several users leaves it, so Up is told again every few seconds. */
+/* What a second may have changed for a session: a route to its peer, its mode, room to tell its owner. */
 static void second(struct session *s, uint64_t now) {
     if (s->ends <= now) return close_session(s, now);
-    bool is_up = s->state.state == BFDD_UP, is_active = (s->wanted.flags & DP_PASSIVE) == 0;
-    if (s->is_open && s->state.state == BFDD_DOWN && is_active != (s->active == 1)) remove_from_engine(s);
+    if (s->is_open && s->state.state == BFDD_DOWN && s->config.active != is_active(s)) remove_from_engine(s);
     if (!s->is_open && s->starts <= now) return open_session(s, now);
     give_changes(s, now);
     record_flush(&s->record);
-    if (s->told_at && (!s->is_told || (is_up && now - s->told_at >= TELL_AGAIN))) tell(s, NULL, now);
+    if (s->tell_at <= now) tell(s, NULL, now);
 }
 
 static void tick(uint64_t now) {
-    if (bfdd_tick(&engine, now / 1000) != BFDD_DONE) return;
     ticked = now / 1000;
+    bfdd_tick(&engine, ticked);
     for (struct session *s = record_is_on() ? all : NULL; s; s = s->next[ALL]) record_tick(&s->record, ticked);
-    take_outputs(TICK, now);
+    take_outputs(NULL, now);
 }
 
 uint64_t sessions_pass(uint64_t now) {
@@ -412,11 +407,11 @@ uint64_t sessions_pass(uint64_t now) {
     return is_due && due * 1000 < next_chores ? due * 1000 : next_chores;
 }
 
-void sessions_view(FILE *file, bool is_json, uint64_t now) {
+void sessions_view(struct line line, uint64_t now) {
     for (struct session *s = all; s; s = s->next[ALL]) {
         bfdd_session_state state = BFDD_SESSION_STATE_INIT;
         if (s->is_open) bfdd_state(&engine, s->wanted.discr, &state);
-        view_session(file, is_json, s, &state, now);
+        view_session(line, s, &state, now);
     }
 }
 

@@ -2,7 +2,6 @@
 #include "daemon.h"
 
 #include <arpa/inet.h>
-#include <netinet/in.h>
 #include <time.h>
 
 enum { SINGLE, MULTI, SENDER, KINDS, MOST_SOCKETS = 1024, MOST_BATCHES = 64, PAYLOAD_ROOM = 256, CONTROL_ROOM = 128 };

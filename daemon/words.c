@@ -8,13 +8,11 @@
 static const char *const names[] = {"error", "warning", "info", "debug"};
 enum log_level log_greatest = LOG_INFO;
 
-bool log_level_named(const char *name, enum log_level *level) {
-    for (unsigned i = 0; i < COUNT(names); i++) {
-        if (strcmp(name, names[i]) != 0) continue;
-        *level = (enum log_level)i;
-        return true;
-    }
-    return false;
+bool log_up_to(const char *name) {
+    unsigned level = 0;
+    while (level < COUNT(names) && strcmp(name, names[level]) != 0) level++;
+    if (level < COUNT(names)) log_greatest = (enum log_level)level;
+    return level < COUNT(names);
 }
 
 void say(enum log_level level, const char *format, ...) {

@@ -1,25 +1,26 @@
 /* libbfdd: a Bidirectional Forwarding Detection engine (RFC 5880, 5881, 5883, 7880, 7881 and 8562), of which every function
- * is proved. docs/EMBEDDING.md tells when to call what, and what is proved; an installation has it in PREFIX/lib/bfdd/docs.
+ * is proved. docs/EMBEDDING.md says when to call what, and what is proved; an installation has it in PREFIX/lib/bfdd/docs.
  *
  * The library does no input, no output and no waiting, and knows no clock and no thread: the caller hands packets and ticks
  * in, and sends what comes out.
  *
  * OWNERSHIP. A handle is closed, or owns one engine. The caller keeps the handle; the engine behind it is the library's. A
  * handle begins as BFDD_HANDLE_INIT, and bfdd_close frees all that it owns. Everything else is the caller's: no call keeps a
- * pointer that it was given, and none hands one out but to a name, a text that is never freed.
+ * pointer that it was given, and none returns one but to a name, a text that is never freed.
  *
  * UNITS. Moments are microseconds since a start that the caller chooses, below 2^60. Ticks are milliseconds since the same
  * start, at most 1,152,921,504,606,846. Intervals are microseconds. Numbers are in the machine's order, the bytes of
  * addresses in network order.
  *
  * ERRORS. A call answers BFDD_DONE, or why it did nothing: then the engine is as it was, and so is every struct but for a
- * complaint about a text and what bfdd_packets tells. That a packet is dropped or a command refused is an answer and no error: see bfdd_answer.
+ * complaint about a text and what bfdd_packets reports. That a packet is dropped or a command refused is an answer and no error: see
+ * bfdd_answer.
  *
  * SIZES. A struct that may get fields in a later version begins with its size: the caller writes sizeof there, as its macro does
  * (BFDD_OUTPUT_INIT), and each element of an array has its own. A size that the library doesn't know is answered by BFDD_SIZE, and nothing
- * is done: so a program fits its library, or is told. The library keeps `size`.
+ * is done: so a program fits its library, or gets a code. The library keeps `size`.
  *
- * THREADS. A handle may go from thread to thread, and different handles may be used at once. A handle is in one call at a
+ * THREADS. A handle may go from thread to thread, and different handles may be used in parallel. A handle is in one call at a
  * time: what several threads share stands behind a lock of the caller.
  *
  * MOVING. Between two calls the bytes of a handle may be copied to another place, as by memcpy or by realloc of what holds it, if
@@ -62,7 +63,7 @@ uint32_t bfdd_version(void);
 enum bfdd_code {
     BFDD_DONE = 0,   /* it did its work */
     BFDD_CLOSED = 1, /* the handle is closed */
-    BFDD_MEMORY = 2, /* there was no memory */
+    BFDD_MEMORY = 2, /* out of memory */
     BFDD_RANGE = 3,  /* a value is outside its range */
     BFDD_END = 4,    /* nothing is left to be read; no tick is needed */
     BFDD_TEXT = 5,   /* the text is no table */
@@ -82,7 +83,7 @@ typedef struct {
 
 #define BFDD_HANDLE_INIT {NULL, false}
 
-/* An IP address. The last twelve bytes of an IPv4 address count for nothing; in what is handed out they are 0. */
+/* An IP address. The last twelve bytes of an IPv4 address count for nothing; in what is returned they are 0. */
 typedef struct {
     uint32_t family; /* 4 or 6 */
     uint8_t bytes[16];
@@ -106,8 +107,8 @@ enum bfdd_fault {
 };
 
 /* Opens a handle with the sessions and reflectors of a table: the text of a packet file (docs/FORMATS.md) without event
- * lines, as "bfd 1\np2p ..\nrun\nend\n". At most 65,536 sessions and reflectors. What the handle owned is freed, once all
- * is there. BFDD_SIZE of the complaint; BFDD_TEXT, and then `complaint` is written; BFDD_EVENTS; BFDD_MEMORY. */
+ * lines, as "bfd 1\np2p ..\nrun\nend\n". At most 65,536 sessions and reflectors. What the handle owned is freed, once the
+ * new engine is complete. BFDD_SIZE of the complaint; BFDD_TEXT, and then `complaint` is written; BFDD_EVENTS; BFDD_MEMORY. */
 uint32_t bfdd_open(bfdd_handle *handle, const uint8_t *text, size_t length, bfdd_complaint *complaint);
 
 enum bfdd_kind {
@@ -142,7 +143,7 @@ typedef struct {
 #define BFDD_SESSION_INIT {sizeof(bfdd_session), 0, 0, 0, 0, {0, {0}}, {0, {0}}, 0, 0, 0, 0, 0, 0, 0, 0, 0, {0}}
 
 /* Opens a handle with this session alone. Several keys, several sessions and reflectors need bfdd_open. What the handle owned
- * is freed, once all is there. BFDD_SIZE, BFDD_RANGE, BFDD_MEMORY. */
+ * is freed, once the new engine is complete. BFDD_SIZE, BFDD_RANGE, BFDD_MEMORY. */
 uint32_t bfdd_open_session(bfdd_handle *handle, const bfdd_session *session);
 
 /* Sessions and reflectors come and go in an open handle: the others, their timers and the outputs that weren't read stay as they
@@ -152,7 +153,7 @@ uint32_t bfdd_open_session(bfdd_handle *handle, const bfdd_session *session);
  * BFDD_FULL, BFDD_TAKEN_DISCR, BFDD_TAKEN_ADDRESSES, BFDD_MEMORY. */
 uint32_t bfdd_add(bfdd_handle *handle, const bfdd_session *session);
 
-/* The session of this discriminator leaves, and tells its peer nothing: for that it is disabled before, which makes it send
+/* The session of this discriminator leaves, and sends its peer nothing: for that it is disabled before, which makes it send
  * AdminDown. BFDD_CLOSED, BFDD_NOT_FOUND. */
 uint32_t bfdd_remove(bfdd_handle *handle, uint32_t discr);
 
@@ -194,7 +195,7 @@ typedef struct {
 /* A packet came in. Of the payload the first 256 bytes are kept. BFDD_CLOSED, BFDD_SIZE, BFDD_RANGE, BFDD_MEMORY. */
 uint32_t bfdd_receive(bfdd_handle *handle, const bfdd_packet *packet, const uint8_t *payload, size_t length);
 
-/* The clock has come to this millisecond; one below the greatest so far counts as that. BFDD_CLOSED, BFDD_RANGE. */
+/* The clock has reached this millisecond; one below the greatest so far counts as that. BFDD_CLOSED, BFDD_RANGE. */
 uint32_t bfdd_tick(bfdd_handle *handle, uint64_t ms);
 
 /* docs/PROTOCOL.md says what each command does, and when it's refused. */
@@ -218,7 +219,7 @@ uint32_t bfdd_show(bfdd_handle *handle, uint64_t moment, uint32_t discr);
 /* What an event gave ----------------------------------------------------------------------------------------------------- */
 
 enum bfdd_answer_kind {
-    BFDD_HANDLED = 0, /* the packet or the command was taken; before the first event it is this too */
+    BFDD_HANDLED = 0, /* the packet or the command was accepted; before the first event it is this too */
     BFDD_TICKED = 1,  /* a tick has passed */
     BFDD_DROPPED = 2, /* the packet was discarded */
     BFDD_REFUSED = 3, /* the command or the question was refused */
@@ -251,7 +252,7 @@ typedef struct {
     uint32_t discr; /* the session to which the packet, command or question came, also where it was dropped or refused by that session;
                      * 0 where it came to none or to a reflector, and of a tick */
     uint8_t state, diag, remote_state; /* shown: these and all below; states are enum bfdd_state, the diagnostic is RFC 5880's */
-    uint8_t poll;   /* the Poll Sequence: 0 none, 1 wanted, 2 running */
+    uint8_t poll;   /* the Poll Sequence: 0 none, 1 requested, 2 running */
     uint32_t remote_discr;
     uint32_t adv_tx;  /* the Desired Min TX Interval that is advertised */
     uint32_t used_tx; /* the one in use */
@@ -264,8 +265,8 @@ typedef struct {
 /* What the last event was answered; after bfdd_packets the last packet that was handled. BFDD_CLOSED, BFDD_SIZE. */
 uint32_t bfdd_answer(bfdd_handle *handle, bfdd_answered *answer);
 
-/* A look at a session. What there is none of is 0. The peer's values are those of its last control packet that the session took, and before
- * that those of a new session; of a head, which hears nothing, they stay so. */
+/* A look at a session. What there is none of is 0. The peer's values are those of the last control packet that the session accepted, and
+ * before that those of a new session; of a head, which hears nothing, they stay so. */
 typedef struct {
     uint32_t size; /* sizeof(bfdd_session_state) */
     uint32_t discr;
@@ -283,7 +284,7 @@ typedef struct {
     uint8_t peer_demand;  /* and 1 where its demand mode is on */
     uint64_t detect;
     uint64_t detect_end;  /* when the Detection Time ends, if it runs */
-    uint64_t heard;       /* the moment of the last control packet that the session took */
+    uint64_t heard;       /* the moment of the last control packet that the session accepted */
     uint64_t changed;     /* the moment of the last change of its state */
     uint64_t received;    /* packets that came to it since it was made, echo packets and those that it dropped too */
     uint64_t sent;        /* packets that it sent, echo packets too */
@@ -296,7 +297,7 @@ typedef struct {
     {sizeof(bfdd_session_state), 0, 0, 0, 0, 0, 0, 0, 0, 0, 0, 0, 0, 0, 0, 0, 0, 0, 0, 0, 0, 0, 0, 0, {0}}
 
 /* A look at the session of this discriminator, as it stands after the last event. It is no event: nothing is settled, and the outputs
- * and the answer stay. A count stays at 4,294,967,295 once it is there. BFDD_CLOSED, BFDD_SIZE, BFDD_NOT_FOUND. */
+ * and the answer stay. A count stays at 4,294,967,295 once it reaches that. BFDD_CLOSED, BFDD_SIZE, BFDD_NOT_FOUND. */
 uint32_t bfdd_state(bfdd_handle *handle, uint32_t discr, bfdd_session_state *state);
 
 enum bfdd_output_kind { BFDD_CHANGED = 1, BFDD_SENT = 2 };
@@ -335,13 +336,13 @@ typedef struct {
     size_t length; /* of the payload */
 } bfdd_arrival;
 
-enum { BFDD_MANY = 64 }; /* how many packets, and how many outputs, one call takes at most */
+enum { BFDD_MANY = 64 }; /* how many packets, and how many outputs, one call handles at most */
 
 /* Packets came in. Each is handed in as by bfdd_receive, in their order, and its answer goes to the place with its number. `handled`
  * gets how many were handled, the first ones: none is handled behind a packet that left outputs, so that they can be read before the
  * rest is handed in. BFDD_DONE: all were handled, or the last one left outputs. Else the first of these that is so. BFDD_CLOSED.
  * BFDD_RANGE: there are more than 64 packets, or fewer places than packets. BFDD_SIZE of a packet or of a place with a packet's number:
- * none was handled. BFDD_RANGE: a value of the packet behind those that were handled is outside its range. BFDD_MEMORY: there was no memory
+ * none was handled. BFDD_RANGE: a value of the packet behind those that were handled is outside its range. BFDD_MEMORY: out of memory
  * for that packet. What wasn't handled has changed nothing, its place neither. */
 uint32_t bfdd_packets(bfdd_handle *handle, const bfdd_arrival *arrivals, size_t count, bfdd_answered *answers, size_t places,
                       size_t *handled);

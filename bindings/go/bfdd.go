@@ -1,7 +1,7 @@
 // Package bfdd is libbfdd, a proved engine for Bidirectional Forwarding Detection.
 //
 // The engine does no input, no output and no waiting: hand packets and ticks in, and send what comes out. After each event call Next
-// until it has no output left, and Answer if it matters; then sleep until Due or until a packet comes. docs/EMBEDDING.md tells when
+// until it has no output left, and Answer if it matters; then sleep until Due or until a packet comes. docs/EMBEDDING.md says when
 // to call what. Moments and intervals are microseconds, ticks milliseconds, since one start that the caller chooses.
 package bfdd
 
@@ -22,7 +22,7 @@ type Code uint32
 
 const (
 	ErrClosed Code = C.BFDD_CLOSED // the engine is closed
-	ErrMemory Code = C.BFDD_MEMORY // there was no memory
+	ErrMemory Code = C.BFDD_MEMORY // out of memory
 	ErrRange  Code = C.BFDD_RANGE  // a value is outside its range
 	ErrEvents Code = C.BFDD_EVENTS // the table has event lines
 
@@ -207,7 +207,7 @@ type Answer struct {
 	Name               string
 	Discr, RemoteDiscr uint32
 	State, RemoteState State
-	Diag, Poll         uint8 // Poll: 0 none, 1 wanted, 2 running
+	Diag, Poll         uint8 // Poll: 0 none, 1 requested, 2 running
 	AdvTx              uint32
 	UsedTx, UsedRx     uint32
 	Detect             uint64
@@ -272,7 +272,7 @@ func (e *Engine) Add(session *Session) error {
 	return failure(C.bfdd_add(&e.handle, &from))
 }
 
-// Remove lets a session leave. Its peer is told nothing: for that disable it before.
+// Remove lets a session leave. Its peer is sent nothing: for that disable it before.
 func (e *Engine) Remove(discr uint32) error {
 	return failure(C.bfdd_remove(&e.handle, C.uint32_t(discr)))
 }
@@ -300,7 +300,7 @@ func (e *Engine) Receive(packet *Packet, payload []byte) error {
 	return failure(C.bfdd_receive(&e.handle, &from, first(payload), C.size_t(len(payload))))
 }
 
-// Tick says that the clock has come to this millisecond.
+// Tick says that the clock has reached this millisecond.
 func (e *Engine) Tick(ms uint64) error { return failure(C.bfdd_tick(&e.handle, C.uint64_t(ms))) }
 
 // Command gives a session a command. That it refuses it is an Answer.

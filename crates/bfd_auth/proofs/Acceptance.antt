@@ -1,5 +1,6 @@
 -- A receiver with the same keys hears what is sealed.
-use Rattle.std.proofs.Common.{◌≡◌, ◌<◌, ◌≤◌, ◌+◌, ◌-◌, ◌*◌, ◌^◌, if◌then◌else◌, List, [], ◌∷◌, ℕ, zero, suc, Bool, true, false, IsTrue, length, replicate, refl, sym, subst, arith, nat_eq, nat_le, slice_index, length-append, Some, Ok}
+use Rattle.std.proofs.Common.{◌≡◌, ◌<◌, ◌≤◌, ◌+◌, ◌-◌, ◌*◌, ◌^◌, if◌then◌else◌, List, [], ◌∷◌, ℕ, zero, suc, Bool, true, false, IsTrue}
+use Rattle.std.proofs.Common.{length, replicate, refl, sym, subst, arith, nat_eq, nat_le, slice_index, length-append, Some, Ok}
 use Rattle.std.proofs.lemmas.Bool.Decides.{nat_tests}
 use Rattle.std.proofs.lemmas.List.{take_all, drop_all, append-nil, length-replicate}
 use Rattle.std.specs.Prelude.{slice_range}
@@ -47,14 +48,19 @@ length-digest_of MeticulousSha1 m = length-sha1 m
 -- a key that fits is padded to the type's length
 length-padded : (kind : AuthType) (key : Key) → length key.secret ≤ digest_size kind → length (padded kind key) ≡ digest_size kind
 length-padded kind key fits =
-    omega (arith, length-append key.secret (replicate (digest_size kind - length key.secret) 0), length-replicate {A = ℕ} (digest_size kind - length key.secret) 0)
+    omega (
+      arith,
+      length-append key.secret (replicate (digest_size kind - length key.secret) 0),
+      length-replicate {A = ℕ} (digest_size kind - length key.secret) 0,
+    )
 
 -- a packet with other bytes of the right length in the digest's place
 in_digest_place-text_of : (kind : AuthType) (key : Key) (sequence : ℕ) (c : Control) (bytes old : List ℕ)
     → length bytes ≡ digest_size kind → length old ≡ digest_size kind
     → in_digest_place kind bytes (text_of c (digest_section kind key sequence old)) ≡ text_of c (digest_section kind key sequence bytes)
 unfolding text_of
-in_digest_place-text_of kind key sequence c bytes old fits was = rw (drop_all (digest_size kind) old (omega arith), was, fits, append-nil) refl
+in_digest_place-text_of kind key sequence c bytes old fits was =
+    rw (drop_all (digest_size kind) old (omega arith), was, fits, append-nil) refl
 
 -- a packet is accepted whose section is right and whose number may be heard
 accepts : (keys : KeyChain) (receiver : SeqState) (raw : List ℕ) (key : Key)
@@ -84,7 +90,8 @@ genuine_password kind key raw password body = rw password (cc (bytes_eq-same key
 hears_digest : (keys : KeyChain) (receiver : SeqState) (c : Control) (key : Key) (xmit : ℕ)
     → is_password keys.kind ≡ false → length key.secret ≤ digest_size keys.kind → xmit < 2 ^ 32
     → key_named key.id keys.list ≡ Some key → may_hear keys.kind receiver c.mult xmit ≡ true
-    → verdict keys receiver (text_of c (digest_section keys.kind key xmit (digest_of keys.kind (keyed_text keys.kind key xmit c)))) ≡ Ok (accepted_seq keys.kind receiver xmit)
+    → verdict keys receiver (text_of c (digest_section keys.kind key xmit (digest_of keys.kind (keyed_text keys.kind key xmit c))))
+    ≡ Ok (accepted_seq keys.kind receiver xmit)
 unfolding text_of
 hears_digest keys receiver c key xmit kind fits range named timely =
     let digest : List ℕ = digest_of keys.kind (keyed_text keys.kind key xmit c) in
@@ -93,7 +100,8 @@ hears_digest keys receiver c key xmit kind fits range named timely =
     let sequence = big_number-reads_back 4 xmit digest range in
     let asked : section_length keys.kind key ≡ digest_size keys.kind + 8 = rw kind refl in
     let count : 32 + digest_size keys.kind - 32 ≡ digest_size keys.kind = omega arith in
-    let body : slice_range raw 32 (32 + digest_size keys.kind) ≡ digest = rw count (take_all (digest_size keys.kind) digest (omega arith)) in
+    let body : slice_range raw 32 (32 + digest_size keys.kind) ≡ digest =
+    rw count (take_all (digest_size keys.kind) digest (omega arith)) in
     let right : right_digest keys.kind key raw ≡ digest =
     cc (in_digest_place-text_of keys.kind key xmit c (padded keys.kind key) digest (length-padded keys.kind key fits) size) in
     let genuine = genuine_digest keys.kind key raw _ kind body right in
@@ -101,27 +109,32 @@ hears_digest keys receiver c key xmit kind fits range named timely =
     cc (accepts keys receiver raw key refl (omega arith) named refl (omega arith) heard_at genuine)
 
 -- a packet with a password is accepted
-hears_password : (keys : KeyChain) (receiver : SeqState) (c : Control) {key : Key} (xmit : ℕ) → is_password keys.kind ≡ true → 1 ≤ length key.secret
-    → key_named key.id keys.list ≡ Some key → verdict keys receiver (text_of c (password_section keys.kind key)) ≡ Ok (accepted_seq keys.kind receiver xmit)
+hears_password : (keys : KeyChain) (receiver : SeqState) (c : Control) {key : Key} (xmit : ℕ) → is_password keys.kind ≡ true
+    → 1 ≤ length key.secret
+    → key_named key.id keys.list ≡ Some key → verdict keys receiver (text_of c (password_section keys.kind key))
+    ≡ Ok (accepted_seq keys.kind receiver xmit)
 unfolding text_of
 hears_password keys receiver c {key} xmit kind some named =
     let raw : List ℕ = text_of c (password_section keys.kind key) in
     let asked : section_length keys.kind key ≡ length key.secret + 3 = rw kind refl in
     let count : 24 + section_length keys.kind key - 27 ≡ length key.secret = omega arith in
-    let body : slice_range raw 27 (24 + slice_index raw 25) ≡ key.secret = rw count (take_all (length key.secret) key.secret (omega arith)) in
+    let body : slice_range raw 27 (24 + slice_index raw 25) ≡ key.secret =
+    rw count (take_all (length key.secret) key.secret (omega arith)) in
     let timely : may_hear keys.kind receiver (slice_index raw 2) (sequence_of raw) ≡ true = rw kind refl in
     let same : accepted_seq keys.kind receiver (sequence_of raw) ≡ accepted_seq keys.kind receiver xmit = rw kind refl in
     cc (accepts keys receiver raw key refl (omega arith) named refl (omega arith) timely (genuine_password keys.kind key raw kind body))
 
 -- fits_kind says both bounds on a secret
-secret_bounds : (kind : AuthType) (secret : List ℕ) → IsTrue (fits_kind kind secret) → (1 ≤ length secret) × (length secret ≤ digest_size kind)
+secret_bounds : (kind : AuthType) (secret : List ℕ) → IsTrue (fits_kind kind secret) → (1 ≤ length secret)
+    × (length secret ≤ digest_size kind)
 secret_bounds kind secret fits = (grind (arith, nat_tests), grind (arith, nat_tests))
 
 -- a packet of either form is accepted
 hears_section : (password : Bool) (keys : KeyChain) (receiver : SeqState) (c : Control) (key : Key) (xmit : ℕ)
     → is_password keys.kind ≡ password → IsTrue (fits_kind keys.kind key.secret) → xmit < 2 ^ 32
     → key_named key.id keys.list ≡ Some key → may_hear keys.kind receiver c.mult xmit ≡ true
-    → verdict keys receiver (text_of c (if password then password_section keys.kind key else digest_section keys.kind key xmit (digest_of keys.kind (keyed_text keys.kind key xmit c)))) ≡ Ok (accepted_seq keys.kind receiver xmit)
+    → verdict keys receiver (text_of c (if password then password_section keys.kind key else digest_section keys.kind key xmit
+    (digest_of keys.kind (keyed_text keys.kind key xmit c)))) ≡ Ok (accepted_seq keys.kind receiver xmit)
 hears_section true keys receiver c key xmit kind fits range named timely =
     hears_password keys receiver c xmit kind (secret_bounds keys.kind key.secret fits).0 named
 hears_section false keys receiver c key xmit kind fits range named timely =

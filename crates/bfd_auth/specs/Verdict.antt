@@ -1,5 +1,6 @@
 -- The tests on a packet's authentication section (RFC 5880 sections 6.7.2 to 6.7.4), in their order.
-use Rattle.std.specs.Prelude.{◌+◌, ◌-◌, ◌*◌, ◌%◌, ◌^◌, ◌==◌, ◌&&◌, ◌||◌, if◌then◌else◌, nat_le, is_none, unwrap_or, ℕ, Bool, true, false, not, List, [], ◌∷◌, length, slice_index, slice_range, find, Option, None, Result}
+use Rattle.std.specs.Prelude.{◌+◌, ◌-◌, ◌*◌, ◌%◌, ◌^◌, ◌==◌, ◌&&◌, ◌||◌, if◌then◌else◌, nat_le, is_none, unwrap_or, ℕ, Bool, true, false}
+use Rattle.std.specs.Prelude.{not, List, [], ◌∷◌, length, slice_index, slice_range, find, Option, None, Result}
 use Rattle.std.specs.Str.{bytes_eq}
 use Rattle.bfd_packet.specs.declared.discard.Test.{Test}
 use Rattle.bfd_packet.specs.declared.discard.Test.TheVariants.{AuthType, AuthKey, AuthLen, AuthSeq, AuthDigest}

@@ -1,4 +1,4 @@
-//! The digest of a packet, taken in pieces.
+//! The digest of a packet, computed in pieces.
 
 ghost use Rattle.std.specs.Prelude.{◌≡◌, ◌+◌, ◌-◌, ◌++◌, ◌≤◌, length, replicate, IsTrue, false};
 ghost use Rattle.md5.specs.Md5.{md5};
@@ -15,7 +15,7 @@ use sha1::Sha1;
 const ZEROS: [u8; 20] = [0; 20];
 
 /// The digest of the packet with the padded key in the digest's place. Nothing is copied: the pieces are
-/// taken in one after the other.
+/// hashed one after the other.
 pub fn digest(kind: AuthType, key: &Key, packet: &[u8]) -> AuthBytes
     requires fits { IsTrue (fits_kind kind key.now.secret) }
     requires room { digest_size kind + 32 ≤ length packet.now }

@@ -59,7 +59,7 @@ fn next(kind: AuthType, seq: &SeqState) -> SeqState
     }
 }
 
-// The packet's authentication section. The digest is made of the packet with zeros in its place, where
+// The packet's authentication section. The digest is computed over the packet with zeros in its place, where
 // `digest` puts the key.
 #[tactic(auto, unfolding(bfd_packet::specs::Layout::text_of))]
 fn section(kind: AuthType, key: &Key, sequence: u32, c: &Control) -> AuthBytes

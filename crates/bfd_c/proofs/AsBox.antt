@@ -9,7 +9,11 @@ use Rattle.bfd_c.specs.contracts.apart.Apart
 use Rattle.bfd_c.specs.contracts.owned.Owned as Kept
 
 abbrev pub E : Bx
-E = record { row = Home.the_row; laws = home.the_row_laws; al = record { row = Heap.the_row; laws = heap.the_row_laws; g = ghosts; d = dict; drops = impl [] tnil dnil } }
+E = record {
+  row = Home.the_row;
+  laws = home.the_row_laws;
+  al = record { row = Heap.the_row; laws = heap.the_row_laws; g = ghosts; d = dict; drops = impl [] tnil dnil };
+}
 
 abbrev pub FromApart : Slot 0
 FromApart = plain (λ _. Apart.the_row Home.the_row Heap.the_row ghosts)

@@ -12,7 +12,8 @@ use Rattle.bfd_c.specs.declared.records.kept.Record.{Record}
 use Rattle.bfd_c.specs.Engines.{Instance}
 use Rattle.bfd_c.specs.Joining.{add_code, unless}
 
-no_memory_by : (many zero d a : Bool) → (if many then Some TooMany else if zero then Some ZeroDiscr else if d then Some SameDiscr else if a then Some SameAddresses else None) ≡ Some Memory → ⊥
+no_memory_by : (many zero d a : Bool) → (if many then Some TooMany else if zero then Some ZeroDiscr else if d then Some SameDiscr else
+    if a then Some SameAddresses else None) ≡ Some Memory → ⊥
 no_memory_by true zero d a e = cc
 no_memory_by false true d a e = cc
 no_memory_by false false true a e = cc
@@ -21,9 +22,11 @@ no_memory_by false false false false e = cc
 
 -- a row has other faults than memory
 pub no_memory : (row : Row) (rows : List Row) → add_fault row rows ≡ Some Memory → ⊥
-no_memory row rows e = no_memory_by (nat_le 65536 (length rows)) (row.discr == 0) (list_any (same_discr row) rows) (list_any (same_addresses row) rows) e
+no_memory row rows e = no_memory_by (nat_le 65536 (length rows)) (row.discr == 0) (list_any (same_discr row) rows)
+    (list_any (same_addresses row) rows) e
 
-pub memory_last : (found : Option AddFault) (fault : AddFault) (w : World) (rs : List Record) (e : Instance) → ((fault ≡ Memory) × (found ≡ None)) ⊎ (found ≡ Some fault) → (found ≡ Some Memory → ⊥)
+pub memory_last : (found : Option AddFault) (fault : AddFault) (w : World) (rs : List Record) (e : Instance)
+    → ((fault ≡ Memory) × (found ≡ None)) ⊎ (found ≡ Some fault) → (found ≡ Some Memory → ⊥)
     → add_code fault ≡ 2 → (unless found w rs e).1 ≡ 0
 memory_last found fault w rs e (inl h) not_memory two = rw h.1 refl
 memory_last found TooMany w rs e (inr h) not_memory two = (let other : 9 ≡ 2 = two in absurd (omega (arith, other)))

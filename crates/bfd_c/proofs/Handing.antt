@@ -11,7 +11,8 @@ use Rattle.bfd_c.specs.Engines.{Instance, asked, first_of}
 use Rattle.bfd_c.specs.Many.{Handed, handed_by, handed_behind, none_handed, one_before, outputs_in}
 use Rattle.bfd_c.specs.Telling.{answer_for_c}
 
-stopped_behind : (left : List Out) (first : Option (Bor Out)) (place : Answered) (places : List Answered) (after : Instance) (behind : Handed)
+stopped_behind : (left : List Out) (first : Option (Bor Out)) (place : Answered) (places : List Answered) (after : Instance)
+    (behind : Handed)
     → option_copied first ≡ first_of left → is_some first ≡ true
     → one_before place (none_handed 0 places after) ≡ handed_behind left place places after behind
 stopped_behind (out ∷ outs) first place places after behind h k = refl
@@ -26,21 +27,28 @@ went_behind (out ∷ outs) None place places after behind h k = absurd (subst T 
 went_behind (out ∷ outs) (Some o) place places after behind h k = absurd (subst T k tt)
 
 -- the first packet left outputs
-pub stopped : (line : Option Line) (place answered : Answered) (places : List Answered) (e after : Instance) (first : Option (Bor Out)) (behind : Handed)
-    → (after, 0) ≡ asked line e → answered ≡ answer_for_c after.discr after.answer → option_copied first ≡ first_of after.left → is_some first ≡ true
+pub stopped : (line : Option Line) (place answered : Answered) (places : List Answered) (e after : Instance) (first : Option (Bor Out))
+    (behind : Handed)
+    → (after, 0) ≡ asked line e → answered ≡ answer_for_c after.discr after.answer → option_copied first ≡ first_of after.left
+    → is_some first ≡ true
     → one_before answered (none_handed 0 places after) ≡ handed_by line place places e behind
 stopped None place answered places e after first behind h w f k = absurd (let no = ap (λ (p : Instance × ℕ). p.1) h in omega (arith, no))
 stopped (Some line) place answered places e after first behind h w f k =
-    subst (λ (x : Instance). one_before answered (none_handed 0 places after) ≡ handed_behind x.left (answer_for_c x.discr x.answer) places x behind)
+    subst (λ (x : Instance). one_before answered (none_handed 0 places after)
+    ≡ handed_behind x.left (answer_for_c x.discr x.answer) places x behind)
     (ap (λ (p : Instance × ℕ). p.0) h)
-    (ap (λ (x : Answered). one_before x (none_handed 0 places after)) w ∙ stopped_behind after.left first (answer_for_c after.discr after.answer) places after behind f k)
+    (ap (λ (x : Answered). one_before x (none_handed 0 places after)) w
+    ∙ stopped_behind after.left first (answer_for_c after.discr after.answer) places after behind f k)
 
 -- it left none, and this came of the others
-pub went_on : (line : Option Line) (place answered : Answered) (places : List Answered) (e after : Instance) (first : Option (Bor Out)) (rest : Instance → Handed) (behind : Handed)
-    → (after, 0) ≡ asked line e → answered ≡ answer_for_c after.discr after.answer → option_copied first ≡ first_of after.left → is_some first ≡ false
+pub went_on : (line : Option Line) (place answered : Answered) (places : List Answered) (e after : Instance) (first : Option (Bor Out))
+    (rest : Instance → Handed) (behind : Handed)
+    → (after, 0) ≡ asked line e → answered ≡ answer_for_c after.discr after.answer → option_copied first ≡ first_of after.left
+    → is_some first ≡ false
     → behind ≡ rest after
     → one_before answered behind ≡ handed_by line place places e (rest (asked line e).0)
-went_on None place answered places e after first rest behind h w f k b = absurd (let no = ap (λ (p : Instance × ℕ). p.1) h in omega (arith, no))
+went_on None place answered places e after first rest behind h w f k b =
+    absurd (let no = ap (λ (p : Instance × ℕ). p.1) h in omega (arith, no))
 went_on (Some line) place answered places e after first rest behind h w f k b =
     subst (λ (x : Instance). one_before answered behind ≡ handed_behind x.left (answer_for_c x.discr x.answer) places x (rest x))
     (ap (λ (p : Instance × ℕ). p.0) h)

@@ -22,7 +22,8 @@ use Rattle.bfd_c.specs.declared.records.kept.Came.TheVariants.{Nothing, Echoed, 
 use Rattle.bfd_c.specs.declared.records.kept.Kind.{Kind}
 use Rattle.bfd_c.specs.declared.records.kept.Kind.TheVariants as kinds
 use Rattle.bfd_c.specs.declared.records.kept.Record.{Record}
-use Rattle.bfd_c.specs.Records.{all_given, blank, changed_at, entered, fresh, gave, giver, session_kind, kinds_in, kinds_of, moment_at, answered_with}
+use Rattle.bfd_c.specs.Records.{all_given, blank, changed_at, entered, fresh, gave, giver, session_kind, kinds_in, kinds_of, moment_at}
+use Rattle.bfd_c.specs.Records.{answered_with}
 
 -- what changes a record, and not its kind
 abbrev KeepsKind : (ℕ → Record → Record) → Type 0
@@ -66,7 +67,8 @@ answered_keeps (Control diag) (Showing shown) moment r = refl
 pub given_keeps : (w : World) (rs : List Record) (outs : List Out) → kinds_in (all_given w rs outs) ≡ kinds_in rs
 given_keeps w rs [] = refl
 given_keeps w rs (out ∷ outs) =
-    given_keeps w (changed_at (place_of (giver out) (configs_of w.sessions)) (gave out) w rs) outs ∙ change_keeps (place_of (giver out) (configs_of w.sessions)) (gave out) w rs (gave_keeps out)
+    given_keeps w (changed_at (place_of (giver out) (configs_of w.sessions)) (gave out) w rs) outs
+    ∙ change_keeps (place_of (giver out) (configs_of w.sessions)) (gave out) w rs (gave_keeps out)
 
 -- the kinds of sessions are those of their configurations
 of_configs : (ss : List Running) → kinds_of ss ≡ map session_kind (configs_of ss)
@@ -77,8 +79,10 @@ pub kinds_stay : (line : Line) (w : World) → kinds_of (happens line w).world.s
 kinds_stay line w = of_configs (happens line w).world.sessions ∙ ap (map session_kind) (happens_keeps line w) ∙ sym (of_configs w.sessions)
 
 -- what came is noted
-pub came_keeps : (line : Line) (w after : World) (items : List Out) (answer : Answer) (place : Option ℕ) (came : Came) (rs noted : List Record)
-    → turn_giving after items answer ≡ happens line w → kinds_in rs ≡ kinds_of w.sessions → noted ≡ changed_at place (answered_with came answer) after rs
+pub came_keeps : (line : Line) (w after : World) (items : List Out) (answer : Answer) (place : Option ℕ) (came : Came)
+    (rs noted : List Record)
+    → turn_giving after items answer ≡ happens line w → kinds_in rs ≡ kinds_of w.sessions
+    → noted ≡ changed_at place (answered_with came answer) after rs
     → kinds_in noted ≡ kinds_of after.sessions
 came_keeps line w after items answer place came rs noted turn same e =
     ap kinds_in e ∙ change_keeps place (answered_with came answer) after rs (answered_keeps came answer) ∙ same
@@ -94,9 +98,11 @@ one_in rs ss place c same =
     map_inserted (λ (r : Record). r.kind) rs place (fresh c) ∙ ap (λ ks. insert ks place (session_kind c)) same
     ∙ sym (map_inserted (λ (s : Running). session_kind s.config) ss place (started c))
 
-pub one_out : (rs : List Record) (ss : List Running) (place : ℕ) → kinds_in rs ≡ kinds_of ss → kinds_in (remove rs place) ≡ kinds_of (remove ss place)
+pub one_out : (rs : List Record) (ss : List Running) (place : ℕ) → kinds_in rs ≡ kinds_of ss
+    → kinds_in (remove rs place) ≡ kinds_of (remove ss place)
 one_out rs ss place same =
-    map_removed (λ (r : Record). r.kind) rs place ∙ ap (λ ks. remove ks place) same ∙ sym (map_removed (λ (s : Running). session_kind s.config) ss place)
+    map_removed (λ (r : Record). r.kind) rs place ∙ ap (λ ks. remove ks place) same
+    ∙ sym (map_removed (λ (s : Running). session_kind s.config) ss place)
 
 -- the records of new sessions are of their kinds
 pub fresh_kinds : (cs : List SessionConfig) → kinds_in (map fresh cs) ≡ kinds_of (map started cs)

@@ -1,5 +1,6 @@
 -- A world to which a session was added is, once that is removed, as it was.
-use Rattle.std.proofs.Common.{◌≡◌, ◌≤◌, ◌+◌, ◌∙◌, ◌∷◌, ℕ, zero, suc, Bool, true, false, List, [], Option, None, Some, length, map, refl, sym, ap, arith}
+use Rattle.std.proofs.Common.{◌≡◌, ◌≤◌, ◌+◌, ◌∙◌, ◌∷◌, ℕ, zero, suc, Bool, true, false, List, [], Option, None, Some, length, map, refl}
+use Rattle.std.proofs.Common.{sym, ap, arith}
 use Rattle.std.specs.Prelude.{◌==◌, nat_lt}
 use Rattle.std.specs.List.{AllByRecursion, insert, position_from}
 use Rattle.std.proofs.lemmas.Iterator.Adapters.{position_from-zero}
@@ -25,8 +26,10 @@ found_from zero n c (d ∷ cs) within o = rw (eq-eqb (discr_of c) (discr_of c) r
 found_from (suc p) n c [] within o = absurd (omega (arith, within))
 found_from (suc p) n c (d ∷ cs) within o = rw o.0 (found_from p (n + 1) c cs (omega (arith, within)) o.1 ∙ ap Some (omega arith))
 
-found : (p : ℕ) (c : SessionConfig) (cs : List SessionConfig) → p ≤ length cs → Others (discr_of c) cs → place_of (discr_of c) (insert cs p c) ≡ Some p
-found p c cs within o = position_from-zero (λ (d : SessionConfig). discr_of c == discr_of d) (insert cs p c) ∙ found_from p 0 c cs within o ∙ ap Some (omega arith)
+found : (p : ℕ) (c : SessionConfig) (cs : List SessionConfig) → p ≤ length cs → Others (discr_of c) cs
+    → place_of (discr_of c) (insert cs p c) ≡ Some p
+found p c cs within o = position_from-zero (λ (d : SessionConfig). discr_of c == discr_of d) (insert cs p c) ∙ found_from p 0 c cs within o
+    ∙ ap Some (omega arith)
 
 pub undone : (c : SessionConfig) (w : World) → session_fault c w ≡ None → world_without (discr_of c) (world_with c w) ≡ w
 undone c w clear =

@@ -6,7 +6,8 @@ use Rattle.bfd_demux.specs.declared.fault.AddFault.{AddFault}
 use Rattle.bfd_demux.specs.declared.fault.AddFault.TheVariants.{TooMany, ZeroDiscr, SameDiscr, SameAddresses, Memory}
 use Rattle.bfd_sbfd.specs.declared.reflecting.Reflector.{Reflector}
 use Rattle.bfd_session.specs.declared.event.SessionConfig.{SessionConfig}
-use Rattle.bfd_instance.specs.World.{World, session_fault, knows_reflector, knows_session, reflector_fault, world_with_reflector, world_with, world_without_reflector, world_without}
+use Rattle.bfd_instance.specs.World.{World, session_fault, knows_reflector, knows_session, reflector_fault, world_with_reflector}
+use Rattle.bfd_instance.specs.World.{world_with, world_without_reflector, world_without}
 use Rattle.bfd_c.specs.declared.records.kept.Record.{Record}
 use Rattle.bfd_c.specs.Records.{records_with, records_without}
 use Rattle.bfd_c.specs.declared.fields.Fields.{Fields}
@@ -38,7 +39,8 @@ fields_added f e = sized (f.size == session_size) (λ code. (e, code)) (session_
 
 -- without the session of this discriminator
 abbrev pub session_removed : ℕ → Instance → Instance × ℕ
-session_removed discr e = if knows_session discr e.world then (record e { world = world_without discr e.world; records = records_without discr e.world e.records }, 0) else (e, 10)
+session_removed discr e = if knows_session discr e.world then
+    (record e { world = world_without discr e.world; records = records_without discr e.world e.records }, 0) else (e, 10)
 
 -- the reflector of these values: its discriminator, its Required Min RX Interval, and 1 where it is Up
 abbrev pub reflector_from_c : ℕ → ℕ → ℕ → Option Reflector
@@ -51,4 +53,5 @@ reflector_added None e = (e, 3)
 reflector_added (Some reflector) e = unless (reflector_fault reflector e.world) (world_with_reflector reflector e.world) e.records e
 
 abbrev pub reflector_removed : ℕ → Instance → Instance × ℕ
-reflector_removed discr e = if knows_reflector discr e.world then (record e { world = world_without_reflector discr e.world }, 0) else (e, 10)
+reflector_removed discr e = if knows_reflector discr e.world then
+    (record e { world = world_without_reflector discr e.world }, 0) else (e, 10)

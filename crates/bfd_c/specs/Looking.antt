@@ -51,7 +51,8 @@ state_by None before = (before, 10)
 state_by (Some l) before = (state_for_c l, 0)
 
 abbrev pub state_in : ℕ → Instance → SessionState → SessionState × ℕ
-state_in discr e before = sized (before.size == session_state_size) (λ code. (before, code)) (state_by (look_of discr e.world e.records) before)
+state_in discr e before = sized (before.size == session_state_size) (λ code. (before, code))
+    (state_by (look_of discr e.world e.records) before)
 
 abbrev pub state_read : ℕ → Option Instance → SessionState → SessionState × ℕ
 state_read discr None before = (before, 1)

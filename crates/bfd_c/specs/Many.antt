@@ -1,5 +1,6 @@
 -- Packets handed in many at once, and outputs read many at once: each as by a call of its own, in their order.
-use Rattle.std.specs.Prelude.{ℕ, zero, suc, ◌+◌, ◌==◌, ◌&&◌, ◌||◌, Bool, List, [], ◌∷◌, length, drop, min, nat_lt, take, Option, None, Some, if◌then◌else◌}
+use Rattle.std.specs.Prelude.{ℕ, zero, suc, ◌+◌, ◌==◌, ◌&&◌, ◌||◌, Bool, List, [], ◌∷◌, length, drop, min, nat_lt, take, Option, None, Some}
+use Rattle.std.specs.Prelude.{if◌then◌else◌}
 use Rattle.std.specs.List.{list_all}
 use Rattle.bfd_rules.specs.declared.outputs.Out.{Out}
 use Rattle.bfd_script.specs.declared.line.entries.Line.{Line}
@@ -39,7 +40,8 @@ handed_behind (out ∷ outs) answer answers after behind = one_before answer (no
 abbrev pub handed_by : Option Line → Answered → List Answered → Instance → Handed → Handed
 handed_by None place answers e behind = none_handed 3 (place ∷ answers) e
 handed_by (Some line) place answers e behind =
-    handed_behind (instance_after line e).left (answer_for_c (instance_after line e).discr (instance_after line e).answer) answers (instance_after line e) behind
+    handed_behind (instance_after line e).left (answer_for_c (instance_after line e).discr (instance_after line e).answer) answers
+    (instance_after line e) behind
 
 -- why a packet isn't handled for which there is no memory
 abbrev pub unhandled_code : Option Line → ℕ

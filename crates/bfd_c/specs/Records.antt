@@ -1,5 +1,6 @@
 -- What is kept of each session beside its variables, and what an event adds to it.
-use Rattle.std.specs.Prelude.{ℕ, ◌+◌, ◌-◌, ◌*◌, ◌^◌, max, min, Option, None, Some, List, [], ◌∷◌, map, replicate, slice_get, slice_index, slice_index_or, slice_set}
+use Rattle.std.specs.Prelude.{ℕ, ◌+◌, ◌-◌, ◌*◌, ◌^◌, max, min, Option, None, Some, List, [], ◌∷◌, map, replicate, slice_get, slice_index}
+use Rattle.std.specs.Prelude.{slice_index_or, slice_set}
 use Rattle.std.specs.List.{insert, remove}
 use Rattle.bfd_packet.specs.declared.arrival.Arrival.{Arrival}
 use Rattle.bfd_packet.specs.declared.arrival.Port.{Port}
@@ -7,7 +8,10 @@ use Rattle.bfd_packet.specs.declared.arrival.Port.TheVariants.{Single, Multi, Ec
 use Rattle.bfd_packet.specs.declared.control.State.{State}
 use Rattle.bfd_packet.specs.declared.control.State.TheVariants.{AdminDown as AdminDownState, Down, Init, Up}
 use Rattle.bfd_packet.specs.declared.discard.Test.{Test}
-use Rattle.bfd_packet.specs.declared.discard.Test.TheVariants.{Short, Version, LengthMin, LengthOver, DetectMult, Multipoint, MyDiscr, YourUnknown, YourZeroState, NoSession, Ttl, AuthUnexpected, AuthMissing, AuthType, AuthKey, AuthLen, AuthSeq, AuthDigest, AdminDown, NotDemand, MultipointYour, NoTail, EchoForm, EchoStale}
+use Rattle.bfd_packet.specs.declared.discard.Test.TheVariants.{Short, Version, LengthMin, LengthOver, DetectMult, Multipoint, MyDiscr}
+use Rattle.bfd_packet.specs.declared.discard.Test.TheVariants.{YourUnknown, YourZeroState, NoSession, Ttl, AuthUnexpected, AuthMissing}
+use Rattle.bfd_packet.specs.declared.discard.Test.TheVariants.{AuthType, AuthKey, AuthLen, AuthSeq, AuthDigest, AdminDown, NotDemand}
+use Rattle.bfd_packet.specs.declared.discard.Test.TheVariants.{MultipointYour, NoTail, EchoForm, EchoStale}
 use Rattle.bfd_packet.specs.Layout.{fields_of}
 use Rattle.bfd_rules.specs.declared.outputs.Out.{Out}
 use Rattle.bfd_rules.specs.declared.outputs.Out.TheVariants.{Changed, Sent}
@@ -110,7 +114,11 @@ came_with _ = Nothing
 -- a packet was dropped by this test
 abbrev pub discarded_by : Test → Record → Record
 discarded_by test r =
-    record r { received = one_counted r.received; dropped = slice_set r.dropped (test_number test) (one_counted (slice_index r.dropped (test_number test))) }
+    record r {
+      received = one_counted r.received;
+      dropped =
+          slice_set r.dropped (test_number test) (one_counted (slice_index r.dropped (test_number test)));
+    }
 
 -- what came to the session had this answer, at this moment
 abbrev pub answered_with : Came → Answer → ℕ → Record → Record
@@ -149,7 +157,8 @@ all_given w rs (out ∷ outs) = all_given w (changed_at (place_of (giver out) (c
 abbrev pub recorded : Line → World → List Record → List Record
 recorded line w rs =
     let after : World = (happens line w).world in
-    all_given after (changed_at (place_reached line w) (answered_with (came_with line) (happens line w).outcome.answer) after rs) (happens line w).outcome.items
+    all_given after (changed_at (place_reached line w) (answered_with (came_with line) (happens line w).outcome.answer) after rs)
+    (happens line w).outcome.items
 
 -- the records with one of a session more, at its place, and without that of a discriminator
 abbrev pub records_with : SessionConfig → World → List Record → List Record

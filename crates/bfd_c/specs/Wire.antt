@@ -12,7 +12,8 @@ use Rattle.bfd_c.specs.declared.wire.Packet.{Packet}
 -- an address of family 4 or 6, in network order
 abbrev pub addr_of : Address → Option Addr
 addr_of a =
-    if a.family == 4 then Some (V4 (from_be_bytes w32 (slice_index a.bytes 0 ∷ slice_index a.bytes 1 ∷ slice_index a.bytes 2 ∷ slice_index a.bytes 3 ∷ [])))
+    if a.family == 4 then Some (V4 (from_be_bytes w32
+    (slice_index a.bytes 0 ∷ slice_index a.bytes 1 ∷ slice_index a.bytes 2 ∷ slice_index a.bytes 3 ∷ [])))
     else if a.family == 6 then Some (V6 (from_be_bytes w128 a.bytes))
     else None
 
@@ -37,7 +38,15 @@ arrival_with packet payload None src dst = None
 arrival_with packet payload (Some port) None dst = None
 arrival_with packet payload (Some port) (Some src) None = None
 arrival_with packet payload (Some port) (Some src) (Some dst) =
-    Some (record { port = port; iface = packet.iface; src = src; sport = packet.sport; dst = dst; ttl = packet.ttl; payload = take 256 payload })
+    Some (record {
+      port = port;
+      iface = packet.iface;
+      src = src;
+      sport = packet.sport;
+      dst = dst;
+      ttl = packet.ttl;
+      payload = take 256 payload;
+    })
 
 -- a packet with its payload, where its interface has a number that the packet file has too
 abbrev pub arrival_from_c : Packet → List ℕ → Option Arrival

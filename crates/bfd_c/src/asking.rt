@@ -107,7 +107,7 @@ pub(crate) fn hear(alloc: Global, engine: &mut Engine, values: &Packet, payload:
 
 /// A packet came in. The first 256 bytes of its payload are kept.
 ///
-/// 1 comes exactly where the handle is closed; 11 exactly where it's open and the struct's size isn't known; 3 exactly where neither comes
+/// 1 comes if and only if the handle is closed; 11 iff it's open and the struct's size isn't known; 3 iff neither comes
 /// and the moment is 2^60 or above, the port isn't 1 to 5, the interface is above 65,535, or a family isn't 4 or 6; 2 only when out of
 /// memory for the payload, where no other comes. Then nothing has changed.
 #[unsafe(no_mangle)]
@@ -139,7 +139,7 @@ pub extern "C" fn bfdd_receive(
 
 /// A tick of the clock, in milliseconds; one below the greatest so far counts as that.
 ///
-/// 1 comes exactly where the handle is closed, 3 exactly where it's open and the tick is above the greatest,
+/// 1 comes if and only if the handle is closed, 3 iff it's open and the tick is above the greatest,
 /// 1,152,921,504,606,846. Then nothing has changed.
 #[unsafe(no_mangle)]
 pub extern "C" fn bfdd_tick(alloc: Global, handle: &mut Handle, ms: u64) -> u32
@@ -161,7 +161,7 @@ pub extern "C" fn bfdd_tick(alloc: Global, handle: &mut Handle, ms: u64) -> u32
 /// of tx, rx and echo, where 0 turns echo off, Detect Mult 1 to 255, 0 or 1 of demand, and a key's id of key. One that is out of
 /// its range the session refuses.
 ///
-/// 1 comes exactly where the handle is closed; 3 exactly where it's open and the moment is 2^60 or above, the discriminator is
+/// 1 comes if and only if the handle is closed; 3 iff it's open and the moment is 2^60 or above, the discriminator is
 /// 0, or the command none of these. Then nothing has changed. What the session refuses is an answer, with the code 0.
 #[unsafe(no_mangle)]
 pub extern "C" fn bfdd_command(
@@ -180,7 +180,7 @@ pub extern "C" fn bfdd_command(
 /// A question: the session of this discriminator is to show itself. What has come due by the moment, in microseconds, is done
 /// first.
 ///
-/// 1 comes exactly where the handle is closed; 3 exactly where it's open and the moment is 2^60 or above, or the discriminator
+/// 1 comes if and only if the handle is closed; 3 iff it's open and the moment is 2^60 or above, or the discriminator
 /// is 0. Then nothing has changed.
 #[unsafe(no_mangle)]
 pub extern "C" fn bfdd_show(alloc: Global, handle: &mut Handle, moment: u64, discr: u32) -> u32

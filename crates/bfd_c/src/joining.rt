@@ -28,8 +28,8 @@ fn join(alloc: Global, engine: &mut Engine, fields: &Fields) -> u32
 
 /// One session more, which starts at the last tick. Nothing else changes: outputs that weren't read and the answer stay.
 ///
-/// 1 comes exactly where the handle is closed; 11 exactly where it's open and the struct's size isn't known; 3 exactly where neither comes
-/// and a value that the kind uses is outside its range; 9, 7 and 8 exactly where none of these comes and, in this order, there are 65,536
+/// 1 comes if and only if the handle is closed; 11 iff it's open and the struct's size isn't known; 3 iff neither comes
+/// and a value that the kind uses is outside its range; 9, 7 and 8 iff none of these comes and, in this order, there are 65,536
 /// sessions and reflectors, one of them has the discriminator, a session of the kind has the same selecting addresses; and 2 only when out
 /// of memory, and where no other comes. Then nothing has changed.
 #[unsafe(no_mangle)]
@@ -52,7 +52,7 @@ pub extern "C" fn bfdd_add(alloc: Global, handle: &mut Handle, fields: &Fields) 
 
 /// The session of this discriminator leaves. Nothing else changes: outputs that weren't read and the answer stay.
 ///
-/// 1 comes exactly where the handle is closed, 10 exactly where it's open and no session has the discriminator. Then nothing has
+/// 1 comes if and only if the handle is closed, 10 iff it's open and no session has the discriminator. Then nothing has
 /// changed.
 #[unsafe(no_mangle)]
 pub extern "C" fn bfdd_remove(alloc: Global, handle: &mut Handle, discr: u32) -> u32
@@ -99,7 +99,7 @@ fn join_reflector(engine: &mut Engine, reflector: Option<Reflector>) -> u32
 /// One reflector more, of this discriminator and Required Min RX Interval in microseconds, which is Up where `up` is 1 and
 /// AdminDown where it is 0. Nothing else changes.
 ///
-/// 1 comes exactly where the handle is closed; 3 exactly where it's open and the discriminator is 0, the interval outside 10,000 to
+/// 1 comes if and only if the handle is closed; 3 iff it's open and the discriminator is 0, the interval outside 10,000 to
 /// 60,000,000, or `up` above 1; and 9, 7 and 2 as of `bfdd_add`. Then nothing has changed.
 #[unsafe(no_mangle)]
 pub extern "C" fn bfdd_add_reflector(
@@ -128,7 +128,7 @@ pub extern "C" fn bfdd_add_reflector(
 
 /// The reflector of this discriminator leaves. Nothing else changes.
 ///
-/// 1 comes exactly where the handle is closed, 10 exactly where it's open and no reflector has the discriminator. Then nothing has
+/// 1 comes if and only if the handle is closed, 10 iff it's open and no reflector has the discriminator. Then nothing has
 /// changed.
 #[unsafe(no_mangle)]
 pub extern "C" fn bfdd_remove_reflector(alloc: Global, handle: &mut Handle, discr: u32) -> u32

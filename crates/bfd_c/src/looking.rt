@@ -34,7 +34,7 @@ pub struct SessionState {
     pub peer_diag: u8,
     pub peer_demand: u8,
     pub detect: u64,
-    /// When the Detection Time ends; the moments of the last control packet that was taken, and of the last change of state.
+    /// When the Detection Time ends; the moments of the last control packet that was accepted, and of the last change of state.
     pub detect_end: u64,
     pub heard: u64,
     pub changed: u64,
@@ -127,7 +127,7 @@ fn read_state(engine: &Engine, discr: u32, state: &mut SessionState) -> u32
 /// A look at the session of this discriminator, as it stands after the last event: nothing is settled, and the outputs that weren't read
 /// and the answer stay.
 ///
-/// 1 comes exactly where the handle is closed, 11 exactly where it's open and the struct's size isn't known, and 10 exactly where neither
+/// 1 comes if and only if the handle is closed, 11 iff it's open and the struct's size isn't known, and 10 iff neither
 /// comes and no session has the discriminator. Then nothing has changed, `state` neither.
 #[unsafe(no_mangle)]
 pub extern "C" fn bfdd_state(

@@ -1,4 +1,4 @@
-//! Calls that do many things at once: packets in, and outputs out.
+//! Many in a call: packets in, and outputs out.
 ghost use Rattle.std.specs.Prelude.{◌≡◌, ◌≢◌, ◌≤◌, None, length, drop, min, take};
 ghost use Rattle.bfd_c.specs.Engines.{asked, instance_after};
 ghost use Rattle.bfd_c.specs.Telling.{answer_for_c};
@@ -103,9 +103,9 @@ fn are_answers_sized(places: &[Answered]) -> bool
 /// Packets came in: each is handed in as by `bfdd_receive`, in their order, and its answer goes to its place. None is handled behind
 /// one that left outputs, so that they can be read, nor behind one that can't be handled.
 ///
-/// `handled` gets how many were handled, the first ones. 0 comes where all were, or the last one left outputs. 1 comes exactly where the
-/// handle is closed; 3 where it's open and there are more than 64 or fewer places; 11 exactly where neither comes and the size of a packet
-/// or of its place isn't known, and then none was handled; 3 also exactly where none of these comes and the values of the packet behind
+/// `handled` gets how many were handled, the first ones. 0 comes where all were, or the last one left outputs. 1 comes if and only if the
+/// handle is closed; 3 where it's open and there are more than 64 or fewer places; 11 iff neither comes and the size of a packet
+/// or of its place isn't known, and then none was handled; 3 also iff none of these comes and the values of the packet behind
 /// those that were handled are outside their ranges, as `bfdd_receive` says; 2 only when out of memory for its payload, where no other
 /// comes. The packets that weren't handled have changed nothing, and their places stay.
 #[unsafe(no_mangle)]
@@ -169,8 +169,8 @@ fn read_many(engine: &mut Engine, places: &mut [Output]) -> (usize, u32)
 
 /// The next outputs of the last event, in their order, as many as there are places, or all.
 ///
-/// `count` gets how many were read. 1 comes exactly where the handle is closed, 3 exactly where it's open and there is no place or
-/// there are more than 64, 4 exactly where neither comes and all were read, 11 exactly where none of these comes and the size of a place
+/// `count` gets how many were read. 1 comes if and only if the handle is closed, 3 iff it's open and there is no place or
+/// there are more than 64, 4 iff neither comes and all were read, 11 iff none of these comes and the size of a place
 /// that would get an output isn't known. Then nothing else has changed.
 #[unsafe(no_mangle)]
 pub extern "C" fn bfdd_outputs(

@@ -190,7 +190,7 @@ fn text(kind: u32, number: u32) -> Option<&'static [u8]>
 /// The name of a number, of a kind: 1 codes, 2 faults of lines, 3 tests that discard, 4 refusals, 5 states, 6 diagnostics, 7 outputs.
 /// The text stands in the library and is never freed; its last byte is a zero.
 ///
-/// 3 comes exactly where there is no such kind, or no such number of it. Then `name` hasn't changed.
+/// 3 comes if and only if there is no such kind, or no such number of it. Then `name` hasn't changed.
 #[unsafe(no_mangle)]
 pub extern "C" fn bfdd_find_name(kind: u32, number: u32, name: &mut &'static [u8]) -> u32
     ensures { (name.new.now, result) ≡ text_read (text_by kind number) name.old.now }

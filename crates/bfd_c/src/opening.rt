@@ -90,9 +90,9 @@ fn start_by(alloc: Global, text: &[u8]) -> Result<Box<Engine>, Unopened>
 }
 
 /// Opens a handle with the sessions and reflectors of a table: the text of a packet file without event lines. What the handle held
-/// before is freed, once all is there.
+/// before is freed, once the new engine is complete.
 ///
-/// 11 comes exactly where the size of `complaint` isn't known. 5 comes exactly where it is and the text is no packet file in which packets
+/// 11 comes if and only if the size of `complaint` isn't known. 5 comes iff it is and the text is no packet file in which packets
 /// and ticks come from outside, or in place of it 2, and then `complaint` gets its first faulty line; 6 where it's one and has event lines,
 /// or 2; and 2 only when out of memory. Then nothing else has changed.
 #[unsafe(no_mangle)]
@@ -134,9 +134,9 @@ fn start_one(alloc: Global, config: SessionConfig) -> Result<Box<Engine>, AllocE
     boxed(alloc, configs, Vec::new(alloc))
 }
 
-/// Opens a handle with one session. What the handle held before is freed, once all is there.
+/// Opens a handle with one session. What the handle held before is freed, once the new engine is complete.
 ///
-/// 11 comes exactly where the struct's size isn't known, 3 exactly where it is and a value that the kind uses is outside its range, 2 only
+/// 11 comes if and only if the struct's size isn't known, 3 iff it is and a value that the kind uses is outside its range, 2 only
 /// when out of memory, and only where neither comes. Then nothing has changed.
 #[unsafe(no_mangle)]
 pub extern "C" fn bfdd_open_session(alloc: Global, handle: &mut Handle, fields: &Fields) -> u32

@@ -38,7 +38,7 @@ fn read_sized(engine: &mut Engine, output: &mut Output) -> u32
 /// The next output of the last event, in their order. Every event makes them stand to be read from the first on; what wasn't read
 /// of the event before is gone.
 ///
-/// 1 comes exactly where the handle is closed, 11 exactly where it's open and the struct's size isn't known, and 4 exactly where neither
+/// 1 comes if and only if the handle is closed, 11 iff it's open and the struct's size isn't known, and 4 iff neither
 /// comes and all were read. Then nothing has changed, `output` neither.
 #[unsafe(no_mangle)]
 pub extern "C" fn bfdd_next(alloc: Global, handle: &mut Handle, output: &mut Output) -> u32
@@ -58,7 +58,7 @@ pub extern "C" fn bfdd_next(alloc: Global, handle: &mut Handle, output: &mut Out
 
 /// What the last event was answered; before the first, that it was handled.
 ///
-/// 1 comes exactly where the handle is closed, 11 exactly where it's open and the struct's size isn't known. Then nothing has changed,
+/// 1 comes if and only if the handle is closed, 11 iff it's open and the struct's size isn't known. Then nothing has changed,
 /// `answer` neither.
 #[unsafe(no_mangle)]
 pub extern "C" fn bfdd_answer(alloc: Global, handle: &mut Handle, answer: &mut Answered) -> u32
@@ -95,7 +95,7 @@ fn read_due(engine: &Engine, ms: &mut u64) -> u32
 /// The least tick that a session needs next, in milliseconds: no tick below it does anything. It may lie at or below the last one;
 /// then the next tick does what is due.
 ///
-/// 1 comes exactly where the handle is closed, 4 exactly where no session needs a tick. Then `ms` hasn't changed.
+/// 1 comes if and only if the handle is closed, 4 iff it's open and no session needs a tick. Then `ms` hasn't changed.
 #[unsafe(no_mangle)]
 pub extern "C" fn bfdd_due(alloc: Global, handle: &mut Handle, ms: &mut u64) -> u32
     ensures held { handle.new.kept.held ≡ handle.old.kept.held }

@@ -49,7 +49,7 @@ pub struct Answered {
     pub state: u8,
     pub diag: u8,
     pub remote_state: u8,
-    /// The Poll Sequence: 0 none, 1 wanted, 2 running.
+    /// The Poll Sequence: 0 none, 1 requested, 2 running.
     pub poll: u8,
     pub remote_discr: u32,
     /// Intervals, and the Detection Time, in microseconds.

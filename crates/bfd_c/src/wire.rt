@@ -7,7 +7,7 @@ use bfd_packet::{Addr, Arrival, Bits128, Payload, Port};
 use std::alloc::{AllocError, Global};
 
 /// An IP address: the family 4 or 6, and its bytes in network order, of which family 4 has four. The others are 0 in what is
-/// handed out, and count for nothing in what is handed in.
+/// returned, and count for nothing in what is handed in.
 #[repr(C)]
 #[derive(Clone, Copy, Drop)]
 pub struct Address {
@@ -52,9 +52,9 @@ pub(crate) fn tell_address(addr: &Addr, address: &mut Address)
 {
     match addr {
         Addr::V4(n) => {
-            let [a, b, c, d] = n.to_be_bytes();
             address.family = 4;
-            address.bytes = [a, b, c, d, 0, 0, 0, 0, 0, 0, 0, 0, 0, 0, 0, 0];
+            address.bytes = [0; 16];
+            address.bytes[..4].copy_from_slice(&n.to_be_bytes());
         }
         Addr::V6(n) => {
             address.family = 6;

@@ -14,7 +14,8 @@ use Rattle.bfd_demux.specs.declared.row.Row.{Row}
 use Rattle.bfd_demux.specs.declared.row.RowKind.{RowKind}
 use Rattle.bfd_demux.specs.declared.target.Target.{Target}
 use Rattle.bfd_demux.specs.declared.target.Target.TheVariants.{Echo}
-use Rattle.bfd_demux.specs.Selection.{row_has_discr, row_has_selector, is_echo_form, is_multipoint, knows, names_on, reflector_index, session_index, table_fails, target_on, tests_on_table, the_one}
+use Rattle.bfd_demux.specs.Selection.{row_has_discr, row_has_selector, is_echo_form, is_multipoint, knows, names_on, reflector_index}
+use Rattle.bfd_demux.specs.Selection.{session_index, table_fails, target_on, tests_on_table, the_one}
 
 -- the first of the port's tests on the table that the arrival fails
 abbrev pub first_past_header : Port → List Row → Arrival → Option Test
@@ -45,7 +46,8 @@ selection_fails port _ packet selector rows = false
 
 -- the first of them that fails
 abbrev pub first_session_failing : Port → Control → Option RowKind → List Row → Option Test
-first_session_failing port packet selector rows = find (λ test. selection_fails port test packet selector rows) (YourUnknown ∷ YourZeroState ∷ NoSession ∷ [])
+first_session_failing port packet selector rows = find (λ test. selection_fails port test packet selector rows)
+    (YourUnknown ∷ YourZeroState ∷ NoSession ∷ [])
 
 -- such a packet names the row
 abbrev pub names_session : Port → Control → Option RowKind → Row → Bool

@@ -1,5 +1,6 @@
 -- The rows of a table, and the faults of rows that make none.
-use Rattle.std.specs.Prelude.{ℕ, Bool, true, false, ◌==◌, ◌&&◌, nat_lt, Option, Some, None, List, [], ◌∷◌, ◌++◌, length, nat_le, position, if◌then◌else◌}
+use Rattle.std.specs.Prelude.{ℕ, Bool, true, false, ◌==◌, ◌&&◌, nat_lt, Option, Some, None, List, [], ◌∷◌, ◌++◌, length, nat_le, position}
+use Rattle.std.specs.Prelude.{if◌then◌else◌}
 use Rattle.std.specs.List.{list_any, position_from}
 use Rattle.std.specs.Option.{option_map, option_or}
 use Rattle.bfd_packet.specs.Addresses.{same_addr}
@@ -14,9 +15,11 @@ use Rattle.bfd_demux.specs.declared.fault.AddFault.TheVariants as adding
 -- one kind, and the same addresses: a packet without Your Discriminator can't tell the two apart (RFC 5880
 -- section 6.3, RFC 8562 section 5.7)
 abbrev pub same_selector : RowKind → RowKind → Bool
-same_selector (Single iface local remote) (Single iface' local' remote') = (iface == iface') && same_addr local local' && same_addr remote remote'
+same_selector (Single iface local remote) (Single iface' local' remote') =
+    (iface == iface') && same_addr local local' && same_addr remote remote'
 same_selector (Multi local remote) (Multi local' remote') = same_addr local local' && same_addr remote remote'
-same_selector (Tail head iface group source) (Tail head' iface' group' source') = (head == head') && (iface == iface') && same_addr group group' && same_addr source source'
+same_selector (Tail head iface group source) (Tail head' iface' group' source') =
+    (head == head') && (iface == iface') && same_addr group group' && same_addr source source'
 same_selector _ _ = false
 
 -- the kind has addresses by which a packet without Your Discriminator names it
@@ -37,7 +40,8 @@ same_addresses row other = same_selector row.kind other.kind
 -- the least row that is like an earlier one, and the least that it is like: their places
 abbrev pub repeat_after : (Row → Row → Bool) → List Row → List Row → Option (ℕ × ℕ)
 repeat_after same earlier [] = None
-repeat_after same earlier (row ∷ rows) = option_or (option_map (λ place. (place, length earlier)) (position_from (same row) 0 earlier)) (repeat_after same (earlier ++ row ∷ []) rows)
+repeat_after same earlier (row ∷ rows) = option_or (option_map (λ place. (place, length earlier)) (position_from (same row) 0 earlier))
+    (repeat_after same (earlier ++ row ∷ []) rows)
 
 -- the same for all rows: of all pairs that are alike the one with the least second place, then the least first
 abbrev pub first_repeat : (Row → Row → Bool) → List Row → Option (ℕ × ℕ)

@@ -1,11 +1,13 @@
 -- The row that an arrival names, and the tests up to there (RFC 5880 sections 6.3 and 6.8.6, RFC 5881, RFC 5883,
 -- RFC 7880, RFC 8562).
-use Rattle.std.specs.Prelude.{ℕ, Bool, true, false, not, ◌==◌, ◌&&◌, ◌||◌, nat_lt, Option, Some, None, List, [], ◌∷◌, ◌++◌, length, find, if◌then◌else◌}
+use Rattle.std.specs.Prelude.{ℕ, Bool, true, false, not, ◌==◌, ◌&&◌, ◌||◌, nat_lt, Option, Some, None, List, [], ◌∷◌, ◌++◌, length, find}
+use Rattle.std.specs.Prelude.{if◌then◌else◌}
 use Rattle.std.specs.List.{filter, list_any}
 use Rattle.std.specs.Option.{option_map}
 use Rattle.bfd_packet.specs.declared.arrival.Arrival.{Arrival}
 use Rattle.bfd_packet.specs.declared.arrival.Port.{Port}
-use Rattle.bfd_packet.specs.declared.arrival.Port.TheVariants.{Single as SinglePort, Multi as MultiPort, Echo as EchoPort, Sbfd as SbfdPort, Answer as AnswerPort}
+use Rattle.bfd_packet.specs.declared.arrival.Port.TheVariants.{Single as SinglePort, Multi as MultiPort, Echo as EchoPort, Sbfd as SbfdPort}
+use Rattle.bfd_packet.specs.declared.arrival.Port.TheVariants.{Answer as AnswerPort}
 use Rattle.bfd_packet.specs.States.{is_init_or_up}
 use Rattle.bfd_packet.specs.declared.control.Control.{Control}
 use Rattle.bfd_packet.specs.declared.discard.Test.{Test}
@@ -103,7 +105,8 @@ is_unknown port rows arrival = not ((fields_of arrival.payload).your == 0) && no
 abbrev pub table_fails : Port → Test → List Row → Arrival → Bool
 table_fails port YourUnknown rows arrival = is_unknown port rows arrival
 table_fails port YourZeroState rows arrival = ((fields_of arrival.payload).your == 0) && is_init_or_up (fields_of arrival.payload).state
-table_fails port NoSession rows arrival = ((fields_of arrival.payload).your == 0) && not (list_any (row_has_selector (selector_on port arrival)) rows)
+table_fails port NoSession rows arrival = ((fields_of arrival.payload).your == 0)
+    && not (list_any (row_has_selector (selector_on port arrival)) rows)
 table_fails port MultipointYour rows arrival = is_multipoint port arrival && not ((fields_of arrival.payload).your == 0)
 table_fails port NoTail rows arrival = is_multipoint port arrival && not (list_any (row_has_selector (tail_selector arrival)) rows)
 table_fails port EchoForm rows arrival = not (is_echo_form arrival.payload)
@@ -126,7 +129,8 @@ first_header_failing arrival = find (λ test. header_fails test arrival.payload)
 
 -- the first of the tests up to selection that an arrival on this port fails
 abbrev pub first_failing_on : Port → List Row → Arrival → Option Test
-first_failing_on port rows arrival = find (λ test. table_fails port test rows arrival) (tests_on_header port ++ tests_on_table port (is_multipoint port arrival))
+first_failing_on port rows arrival = find (λ test. table_fails port test rows arrival)
+    (tests_on_header port ++ tests_on_table port (is_multipoint port arrival))
 
 -- the first of the tests up to selection that the arrival fails, in the order of its port
 abbrev pub first_table_failing : List Row → Arrival → Option Test

@@ -19,7 +19,8 @@ HasKeysOnce {K} {V} cmp entries = (key : K) → how_many (λ entry. is_eq (cmp e
 
 -- every entry's key is below each later entry's
 abbrev pub IsAscending : {K V : Type 0} → (K → K → Ordering) → List (K × V) → Type 0
-IsAscending {K} {V} cmp entries = (i j : ℕ) (d : K × V) → i < j → j < length entries → cmp (slice_index_or entries i d).0 (slice_index_or entries j d).0 ≡ Less
+IsAscending {K} {V} cmp entries = (i j : ℕ) (d : K × V) → i < j → j < length entries
+    → cmp (slice_index_or entries i d).0 (slice_index_or entries j d).0 ≡ Less
 
 -- the entry at this place has the key, and the place is the number of entries with a lower one
 pub record IsPlaceOf {K V : Type 0} (cmp : K → K → Ordering) (entries : List (K × V)) (key : K) (place : ℕ) : Type 0 where

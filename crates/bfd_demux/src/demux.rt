@@ -16,7 +16,7 @@ ghost use Rattle.bfd_demux.specs.Table.{how_many};
 
 use crate::fault::{AddFault, BuildFault};
 use crate::guess::{Ends, guess_by_discr, guess_by_peer};
-use crate::lists::{Addresses, Names, insert_addresses};
+use crate::lists::{Addresses, Names, insert_addresses, remove_addresses, remove_name};
 use crate::name::{Name, heard_on, is_heard, name_on, names_before, row_name};
 use crate::repeats::{repeated_addresses, repeated_discr};
 use crate::row::{Row, RowKind};
@@ -71,7 +71,7 @@ impl Demux {
     /// the first row with the discriminator 0 (ZeroDiscr), the least row with the discriminator of an
     /// earlier one (SameDiscr; RFC 5880 section 6.8.1), the least row of the kind and addresses of an
     /// earlier one (SameAddresses). These two name the least earlier row first. Memory comes only
-    /// where no memory is left, and never in place of TooMany or ZeroDiscr. No rows are no fault, and take no
+    /// where no memory is left, and never in place of TooMany or ZeroDiscr. No rows are no fault, and need no
     /// memory.
     #[tactic(auto, using(crate::proofs::Once::no_early_fault))]
     pub fn build(alloc: Global, rows: &[Row]) -> Result<Demux, BuildFault>
@@ -187,6 +187,7 @@ impl Demux {
             ⊎ (add_fault row.now self.old ≡ Some fault)) }
         ensures as_built { option_map fault_kind (build_fault (insert self.old place row.now)) ≡ add_fault row.now self.old }
     {
+        // proof: the read brings the invariant
         let _ = &self.rows;
         if let Some(fault) = self.fault_with(row) {
             return Err(fault);
@@ -213,15 +214,15 @@ impl Demux {
         Ok(())
     }
 
-    /// Removes the row at this place, which has this discriminator, and leaves all others. It takes no memory. The time is linear in
+    /// Removes the row at this place, which has this discriminator, and leaves all others. It allocates no memory. The time is linear in
     /// the rows.
     pub fn remove(&mut self, place: usize, discr: u32)
         requires within { place < length self.old }
         requires its { (d : Row) → (slice_index_or self.old place d).discr ≡ discr }
         ensures { self.new ≡ remove self.old place }
     {
-        self.names.retain(|entry| entry.0.discr() != discr);
-        self.addresses.retain(|entry| entry.1 != discr);
+        remove_name(&mut self.names, discr);
+        remove_addresses(&mut self.addresses, discr);
         self.rows = self.rows.removed(&place);
         self.sessions = count_sessions(&self.names);
         self.name_ends = Ends::of_names(&self.names);
@@ -294,8 +295,8 @@ impl Demux {
     /// What the arrival is for, or the first of its port's tests up to selection that it fails (RFC 5880
     /// section 6.8.6). First come the tests on the header, as `header_test` makes them; an echo packet has
     /// none. Then, on the table: on echo EchoForm and YourUnknown; on sbfd YourUnknown; on single with M set
-    /// MultipointYour and NoTail (RFC 8562); and else YourUnknown, YourZeroState and NoSession. It takes no
-    /// memory. A step is the look at one entry of a sorted table: a lookup takes at most 17, and only a
+    /// MultipointYour and NoTail (RFC 8562); and else YourUnknown, YourZeroState and NoSession. It allocates
+    /// no memory. A step is the look at one entry of a sorted table: a lookup takes at most 17, and only a
     /// selection by addresses needs two lookups.
     pub fn screen<L: Ledger>(&self, arrival: &Arrival, steps: &mut Steps<L>) -> Result<Target, Test>
         ensures tests { result_err result ≡ first_table_failing self.now arrival.now }
@@ -488,7 +489,7 @@ fn echo_words(payload: &[u8]) -> Option<(u32, u32)>
     None
 }
 
-// Whether M is set on the port that takes multipoint packets.
+// Whether M is set on the port that accepts multipoint packets.
 fn is_multipoint(port: Port, packet: &Control) -> bool
     ensures { result ≡ (takes_multipoint_of port && packet.now.multi) }
 {

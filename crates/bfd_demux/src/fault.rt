@@ -17,7 +17,7 @@ pub enum BuildFault {
     ZeroDiscr(usize),
     /// So many rows are more than 65,536.
     TooMany(usize),
-    /// No memory is left.
+    /// Out of memory.
     Memory,
 }
 
@@ -54,6 +54,6 @@ pub enum AddFault {
     SameDiscr,
     /// A row of the table is of its kind with the same addresses.
     SameAddresses,
-    /// No memory is left.
+    /// Out of memory.
     Memory,
 }

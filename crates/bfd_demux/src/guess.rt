@@ -1,5 +1,5 @@
 //! Where a row may stand in an index: the first place that a search looks at. It is right where sessions are numbered, or
-//! addressed, one after another, and else only a guess. What the first entry and the last have is kept beside the index when it
+//! addressed, one after another, and else only a guess. What the first entry and the last have is kept alongside the index when it
 //! is built, so that a guess looks at no entry.
 
 ghost use Rattle.std.specs.Prelude.{◌≤◌, length};

@@ -6,7 +6,7 @@
 //!
 //! It stands on `bfd_packet` for arrivals and the tests on their headers, on `bfd_num` for the counter of steps, and on `byteorder` and
 //! `thiserror`. It promises that `build` refuses exactly the rows that make no table, but when out of memory, and names the first fault;
-//! that no rows are no fault and take no memory; that `screen` is the standard's choice for every table and arrival, and takes no memory;
+//! that no rows are no fault and need no memory; that `screen` is the standard's choice for every table and arrival, and needs no memory;
 //! and that a lookup counts 17 steps at most, of which the search counts one for each entry that it looks at.
 #![tactic(auto)]
 

@@ -1,12 +1,12 @@
 //! The two lists of a table, each in order. They ask nothing of one another, so they may be made in parallel.
 
-ghost use Rattle.std.specs.Prelude.{◌≡◌, ◌<◌, ◌++◌, ◌∷◌, [], IfOk, None, false, true, vec_capacity, vec_len};
-ghost use Rattle.std.specs.List.{list_any};
+ghost use Rattle.std.specs.Prelude.{◌≡◌, ◌<◌, ◌≤◌, ◌==◌, ◌++◌, ◌∷◌, [], IfOk, None, false, true, not, position, vec_capacity, vec_len};
+ghost use Rattle.std.specs.List.{filter, list_any};
 ghost use Rattle.std.specs.Ordering.{is_eq};
 ghost use Rattle.bfd_demux.specs.Rows.{build_fault, has_addresses};
-ghost use Rattle.bfd_demux.specs.Index.{AreNames, AreAddresses, addresses_of, names_of};
+ghost use Rattle.bfd_demux.specs.Index.{AreNames, AreAddresses, addresses_of, name_discr, names_of};
 ghost use Rattle.bfd_demux.specs.contracts.row.RowKindOrd.TheImpl as kind_order;
-ghost use Rattle.bfd_demux.specs.Table.{HasSame, IsAscending};
+ghost use Rattle.bfd_demux.specs.Table.{HasSame, IsAscending, how_many};
 
 use crate::name::{Name, heard_on, row_name};
 use crate::repeats::addresses_of;
@@ -93,5 +93,39 @@ pub fn insert_addresses(addresses: &mut Vec<(RowKind, u32)>, row: &Row)
         let Ok(()) = insert_by_key(addresses, (row.kind, row.discr)) else {
             unreachable!();
         };
+    }
+}
+
+// Where the name with this discriminator stands.
+fn name_slot(names: &[(Name, Option<Port>)], discr: u32) -> Option<usize>
+    ensures { result ≡ position (λ entry. name_discr entry.0 == discr) names.now }
+{
+    names.iter().position(|entry| entry.0.discr() == discr)
+}
+
+// Where the addresses of this discriminator stand.
+fn addresses_slot(addresses: &[(RowKind, u32)], discr: u32) -> Option<usize>
+    ensures { result ≡ position (λ entry. entry.1 == discr) addresses.now }
+{
+    addresses.iter().position(|entry| entry.1 == discr)
+}
+
+/// Removes the name with this discriminator, if there is one. No two have it.
+pub fn remove_name(names: &mut Vec<(Name, Option<Port>)>, discr: u32)
+    requires { how_many (λ entry. name_discr entry.0 == discr) names.old.items ≤ 1 }
+    ensures { names.new.items ≡ filter (λ entry. not (name_discr entry.0 == discr)) names.old.items }
+{
+    if let Some(slot) = name_slot(names, discr) {
+        names.remove(slot);
+    }
+}
+
+/// Removes the addresses of this discriminator, if there are some. No two have it.
+pub fn remove_addresses(addresses: &mut Vec<(RowKind, u32)>, discr: u32)
+    requires { how_many (λ entry. entry.1 == discr) addresses.old.items ≤ 1 }
+    ensures { addresses.new.items ≡ filter (λ entry. not (entry.1 == discr)) addresses.old.items }
+{
+    if let Some(slot) = addresses_slot(addresses, discr) {
+        addresses.remove(slot);
     }
 }

@@ -1,8 +1,8 @@
-//! A row of the table: a session or a reflector, and what its packets are told by.
+//! A row of the table: a session or a reflector, and what its packets are selected by.
 
 use bfd_packet::Addr;
 
-/// What a row is for, and the addresses by which its packets are told where they have no Your Discriminator.
+/// What a row is for, and the addresses by which its packets are selected where they have no Your Discriminator.
 /// `iface` is the interface's number.
 #[derive(Clone, Copy, Debug, PartialEq, Eq, PartialOrd, Ord)]
 pub enum RowKind {

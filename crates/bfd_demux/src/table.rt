@@ -25,7 +25,7 @@ fn is_ascending<K: Ord, V>(entries: &[(K, V)]) -> bool
     true
 }
 
-/// Puts entries into the ascending order of their keys, and tells whether each key comes once. Entries that
+/// Puts entries into the ascending order of their keys, and answers whether each key comes once. Entries that
 /// already stand so are looked through and left where they are.
 pub fn sort_by_key<K: Ord + Copy, V>(entries: &mut Vec<(K, V)>) -> bool
     ensures permutation { IsPermutation entries.old.items entries.new.items }

@@ -26,12 +26,14 @@ unfolding settled
 settled_rests e t eff interval mult h = rw (has_failed_rests e interval mult h, is_sending_rests e interval mult h) refl
 
 -- with a limit from the due tick's moment on, something is done
-pub outcome_acts : (e : Echo) (limit interval mult discr : ℕ) → 1000 * due e interval mult ≤ limit → outcome limit interval mult discr e ≢ Nothing
+pub outcome_acts : (e : Echo) (limit interval mult discr : ℕ) → 1000 * due e interval mult ≤ limit
+    → outcome limit interval mult discr e ≢ Nothing
 unfolding outcome ceil_tick floor_tick
 outcome_acts e limit interval mult discr h = grind (arith, nat_tests)
 
 -- a packet is due only when the interval has passed since the last
-after_interval : (first : ℕ) {before : ℕ} (limit interval : ℕ) (o : Option ℕ) → o ≡ Some before → tick_after first o interval ≤ floor_tick limit → before + interval ≤ limit
+after_interval : (first : ℕ) {before : ℕ} (limit interval : ℕ) (o : Option ℕ) → o ≡ Some before
+    → tick_after first o interval ≤ floor_tick limit → before + interval ≤ limit
 unfolding ceil_tick floor_tick
 after_interval first limit interval None e h = cc
 after_interval first {before} limit interval (Some sent) e h = let same : sent ≡ before = cc in omega arith

@@ -10,7 +10,8 @@ pub begun_moments : (eff next : ℕ) → eff < moment_bound → HasMoments (echo
 unfolding echo_begun
 begun_moments eff next small = record { last_below = small; sent_below = tt }
 
-returned_by : (b : Bool) {eff : ℕ} (s : ℕ) {e : Echo} → eff < moment_bound → HasMoments e → HasMoments (if b then record e { back = next_sequence s; last = eff } else e)
+returned_by : (b : Bool) {eff : ℕ} (s : ℕ) {e : Echo} → eff < moment_bound → HasMoments e
+    → HasMoments (if b then record e { back = next_sequence s; last = eff } else e)
 returned_by true s small moments = record { last_below = small; sent_below = moments.sent_below }
 returned_by false s small moments = moments
 
@@ -28,6 +29,8 @@ settled_by true sending small moments = moments
 settled_by false true small moments = sent_moments small moments
 settled_by false false small moments = moments
 
-pub settled_moments : (limit eff interval mult : ℕ) (e : Echo) → eff < moment_bound → HasMoments e → HasMoments (settled limit eff interval mult e)
+pub settled_moments : (limit eff interval mult : ℕ) (e : Echo) → eff < moment_bound → HasMoments e
+    → HasMoments (settled limit eff interval mult e)
 unfolding settled
-settled_moments limit eff interval mult e small moments = settled_by (has_failed limit interval mult e) (is_sending limit interval e) small moments
+settled_moments limit eff interval mult e small moments =
+    settled_by (has_failed limit interval mult e) (is_sending limit interval e) small moments

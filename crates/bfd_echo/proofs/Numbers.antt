@@ -16,10 +16,12 @@ pub unsent : (e : Echo) → is_outstanding e e.next ≡ false
 unsent e = grind (arith, nat_tests)
 
 -- one number more is one step more, but for the whole round
-steps_to-after : {from to : ℕ} → from < 2 ^ 32 → to < 2 ^ 32 → steps_to from to + 1 < 2 ^ 32 → steps_to from (next_sequence to) ≡ steps_to from to + 1
+steps_to-after : {from to : ℕ} → from < 2 ^ 32 → to < 2 ^ 32 → steps_to from to + 1 < 2 ^ 32
+    → steps_to from (next_sequence to) ≡ steps_to from to + 1
 steps_to-after small few room = omega arith
 
-pub just_sent : (e : Echo) (eff : ℕ) → e.back < 2 ^ 32 → e.next < 2 ^ 32 → steps_to e.back e.next + 1 < 2 ^ 32 → is_outstanding (sent eff e) e.next ≡ true
+pub just_sent : (e : Echo) (eff : ℕ) → e.back < 2 ^ 32 → e.next < 2 ^ 32 → steps_to e.back e.next + 1 < 2 ^ 32
+    → is_outstanding (sent eff e) e.next ≡ true
 unfolding sent
 just_sent e eff small few room = rw (steps_to-after small few room) (grind (arith, nat_tests))
 

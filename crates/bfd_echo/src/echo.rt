@@ -59,8 +59,8 @@ impl Echo {
     }
 
     /// A packet with this sequence number came back at the effective moment `eff`, in microseconds (RFC 5880 section
-    /// 6.8.8). True exactly where the number is outstanding: it was sent, and neither it nor a later one came back. False
-    /// changes nothing.
+    /// 6.8.8). True if and only if the number is outstanding: it was sent, and neither it nor a later one came back.
+    /// False changes nothing.
     #[tactic(auto, unfolding(crate::specs::Rules::returned))]
     pub fn returned(&mut self, eff: u64, seq: u32) -> bool
         requires eff { eff < moment_bound }
@@ -116,7 +116,7 @@ impl Echo {
     /// intervals have passed since a packet last came back (RFC 5880 section 6.8.5), and else sending, where the
     /// interval has passed since the last packet (section 6.8.9). `interval` is in microseconds, `mult` the own Detect
     /// Mult, `discr` the local discriminator. After a failure the echo is as before. With the limit of a tick before
-    /// `due` nothing is done. Takes no memory.
+    /// `due` nothing is done. Allocates no memory.
     #[tactic(auto, unfolding(crate::specs::Rules::settled, crate::specs::Rules::outcome, crate::specs::Rules::sent, bfd_num::specs::Numbers::floor_tick, bfd_num::specs::Numbers::ceil_tick))]
     pub fn settle(
         &mut self,

@@ -48,7 +48,7 @@ pub fn sequence_laws()
 {}
 
 /// Laws, and no work: an echo packet has 16 bytes, and its words are the sign, the discriminator, the sequence number
-/// and 0, so what is sent is told again when it comes back.
+/// and 0, so what is sent is recognized when it comes back.
 #[tactic(auto, using(crate::proofs::Words::text_size, crate::proofs::Words::word_0, crate::proofs::Words::word_4, crate::proofs::Words::word_8, crate::proofs::Words::word_12))]
 pub fn packet_laws()
     ensures size { (discr sequence : ℕ) → length (echo_text discr sequence) ≡ 16 }

@@ -6,9 +6,9 @@
 //! session's to say; `is_echo_wanted` and `echo_interval` have the part of it that two intervals decide.
 //!
 //! It stands on `bfd_num`, on `bfd_packet` for addresses, datagrams and buffers, and on `byteorder`. It promises that
-//! each call is its definition in `specs/` for every echo whose moments are below 2^60; that a return counts exactly
-//! where its number is outstanding, across the wrap at 2^32; that failure comes before sending, and each exactly when it
-//! is due; that `due` is the least tick at which `settle` does something; and that no call takes memory.
+//! each call is its definition in `specs/` for every echo whose moments are below 2^60; that a return counts if and
+//! only if its number is outstanding, across the wrap at 2^32; that failure comes before sending, and each exactly when it
+//! is due; that `due` is the least tick at which `settle` does something; and that no call allocates memory.
 #![tactic(auto)]
 
 mod echo;

@@ -1,5 +1,6 @@
 -- One answer more of a list of them.
-use Rattle.std.proofs.Common.{◌≡◌, ℕ, zero, suc, ◌+◌, List, [], ◌∷◌, ◌++◌, take, drop, Some, None, refl, sym, append_assoc, append-nil, arith}
+use Rattle.std.proofs.Common.{◌≡◌, ℕ, zero, suc, ◌+◌, List, [], ◌∷◌, ◌++◌, take, drop, Some, None, refl, sym, append_assoc, append-nil}
+use Rattle.std.proofs.Common.{arith}
 use Rattle.std.specs.Prelude.{slice_get}
 use Rattle.bfd_packet.specs.declared.arrival.Arrival.{Arrival}
 use Rattle.bfd_packet.specs.declared.arrival.Datagram.{Datagram}
@@ -23,7 +24,10 @@ packets_more [] at item there = absurd (cc there)
 packets_more (x ∷ xs) zero item there =
     let same : x ≡ item = cc there in
     rw same (append-nil (packet_in item))
-packets_more (x ∷ xs) (suc at) item there = cc (packets_more xs at item there, append_assoc (packet_in x) (packets_in (take at xs)) (packet_in item))
+packets_more (x ∷ xs) (suc at) item there = cc (
+  packets_more xs at item there,
+  append_assoc (packet_in x) (packets_in (take at xs)) (packet_in item),
+)
 
 -- behind the end nothing is left
 none_left : (items : List Heard) (at : ℕ) → slice_get items at ≡ None → drop at items ≡ []
@@ -62,6 +66,8 @@ heard_all items at received.Memory there =
 
 -- a link tells one answer more
 pub told_more : {packets more : List (ℕ × Arrival)} {sent : List Datagram} {counts : LinkCounts} {number : ℕ} (answer : Received)
-    → more ≡ packets ++ packets_of answer → {now : LinkTold} → now ≡ record { number = number; traffic = Some (record { received = packets; sent = sent }); counts = counts }
-    → record { number = number; traffic = Some (record { received = more; sent = sent }); counts = counts_after_receive answer counts } ≡ after_receive answer now
+    → more ≡ packets ++ packets_of answer → {now : LinkTold}
+    → now ≡ record { number = number; traffic = Some (record { received = packets; sent = sent }); counts = counts }
+    → record { number = number; traffic = Some (record { received = more; sent = sent }); counts = counts_after_receive answer counts }
+    ≡ after_receive answer now
 told_more {sent} answer is was = rw (was, is, append-nil sent) refl

@@ -1,5 +1,6 @@
 -- Places that are made and that change.
-use Rattle.std.proofs.Common.{◌≡◌, ℕ, zero, suc, ◌<◌, ◌==◌, ◌||◌, Bool, true, false, List, [], ◌∷◌, ◌++◌, length, get_or, None, Result, if◌then◌else◌, refl, sym, ◌∙◌, arith}
+use Rattle.std.proofs.Common.{◌≡◌, ℕ, zero, suc, ◌<◌, ◌==◌, ◌||◌, Bool, true, false, List, [], ◌∷◌, ◌++◌, length, get_or, None, Result}
+use Rattle.std.proofs.Common.{if◌then◌else◌, refl, sym, ◌∙◌, arith}
 use Rattle.std.specs.Prelude.{nat_lt, slice_set, Ok, Err, OnErr}
 use mathlib.Core.Logic.{dite}
 use native.Mathlib.Decide.{ℕ_discrete}
@@ -60,7 +61,8 @@ through f false x y = refl
 -- a place that changes, and what is read of it stays
 unseen : {T Y : Type 0} → (f : Place T → Y) (number n : ℕ) (place : Place T) (places : ℕ → Place T) → f place ≡ f (places number)
     → f (with_place number place places n) ≡ f (places n)
-unseen f number n place places same = dite (ℕ_discrete n number) (λ here. let e : (n == number) ≡ true = grind (arith, nat_tests, here) in rw e (cc))
+unseen f number n place places same = dite (ℕ_discrete n number)
+    (λ here. let e : (n == number) ≡ true = grind (arith, nat_tests, here) in rw e (cc))
     (λ other. let e : (n == number) ≡ false = grind (arith, nat_tests, other) in rw e refl)
 
 if_or : (b other : Bool) → (if b then true else other) ≡ (b || other)
@@ -97,9 +99,11 @@ pub place_there : {T : Type 0} → (places : List (Place T)) (n : ℕ) {place : 
     → place ≡ get_or places n place → place_in places n ≡ place
 place_there [] n inside there = absurd (omega (arith, ltb-true n 0 (sym inside)))
 place_there (x ∷ xs) zero inside there = sym there
-place_there (x ∷ xs) (suc n) inside there = place_there xs n (sym (lt-ltb n (length xs) (omega (arith, ltb-true (suc n) (suc (length xs)) (sym inside))))) there
+place_there (x ∷ xs) (suc n) inside there = place_there xs n
+    (sym (lt-ltb n (length xs) (omega (arith, ltb-true (suc n) (suc (length xs)) (sym inside))))) there
 
 pub place_past : {T : Type 0} → (places : List (Place T)) (n : ℕ) → false ≡ nat_lt n (length places) → place_in places n ≡ Waiting
 place_past [] n past = refl
 place_past (x ∷ xs) zero past = absurd (omega (arith, ltb-false 0 (suc (length xs)) (sym past)))
-place_past (x ∷ xs) (suc n) past = place_past xs n (sym (le-ltb n (length xs) (omega (arith, ltb-false (suc n) (suc (length xs)) (sym past)))))
+place_past (x ∷ xs) (suc n) past = place_past xs n (sym
+    (le-ltb n (length xs) (omega (arith, ltb-false (suc n) (suc (length xs)) (sym past)))))

@@ -1,5 +1,5 @@
-// The trusted edge over std's readers and writers.
-ghost use Rattle.std.specs.Prelude.{◌≡◌, ◌≢◌, ◌⊎◌, Err, ℕ, ◌<◌, [], IfOk, List, OnErr, Option, length, Ok};
+//! The trusted edge over std's readers and writers.
+ghost use Rattle.std.specs.Prelude.{◌≡◌, ◌≢◌, ◌⊎◌, Err, ℕ, ◌<◌, [], IfOk, List, OnErr, Option, length, Ok, true, false, None};
 ghost use Rattle.std.specs.Io.{ReadsAtMost, WritesAtMost};
 ghost use Rattle.std.specs.Io.KnownBytes.{ReadConsumes, WriteAppends};
 ghost use Rattle.bfd_edge.specs.Faults.{HasCause, Rose, raised};
@@ -8,7 +8,7 @@ use crate::fault::Fault;
 use crate::outside::{Sink, Source};
 use std::io::{Read, Write};
 
-/// A source over one of std's readers. It tells what that reader tells, which is nothing for standard input or a file.
+/// A source over one of std's readers. It reports what that reader reports, which is nothing for standard input or a file.
 #[derive(Drop)]
 pub struct StdSource<R: Read> {
     reader: R,
@@ -48,7 +48,7 @@ impl<R: Read> Source for StdSource<R> {
     }
 }
 
-/// A sink over one of std's writers. It tells what that writer tells, which is nothing for standard output or a file.
+/// A sink over one of std's writers. It reports what that writer reports, which is nothing for standard output or a file.
 #[derive(Drop)]
 pub struct StdSink<W: Write> {
     writer: W,
@@ -69,7 +69,14 @@ impl<W: Write> Sink for StdSink<W> {
 
     ghost faults = { λ s. s.faults };
 
-    /// Writes what the writer takes. Its every error is `Failed`, and counts as one fault, as an `Ok(0)` does for a piece
+    fn is_read(&self) -> bool
+        ensures read { result ≡ true }
+        ensures unread { result ≡ false → W.contents self.now.writer ≡ None }
+    {
+        true
+    }
+
+    /// Writes what the writer accepts. Its every error is `Failed`, and counts as one fault, as an `Ok(0)` does for a piece
     /// that isn't empty.
     fn write(&mut self, piece: &[u8]) -> Result<usize, Fault>
         ensures bound { WritesAtMost result piece.now }

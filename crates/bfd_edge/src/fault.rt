@@ -1,4 +1,4 @@
-// Why a call to the outside was refused.
+//! Why a call to the outside was refused.
 
 /// Why a call to the outside was refused.
 #[derive(Clone, Copy, Debug, PartialEq, Eq)]
@@ -6,6 +6,6 @@ pub enum Fault {
     /// The outside failed: its count of faults rose in this call.
     Failed,
 
-    /// There was no memory for the call.
+    /// Out of memory for the call.
     Memory,
 }

@@ -1,4 +1,4 @@
-// A meeting point for tests.
+//! A meeting point for tests.
 
 /// Stands round each turn of a worker, so that a test can make workers meet. It says nothing of packets.
 pub trait Gate {

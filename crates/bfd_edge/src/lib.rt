@@ -1,13 +1,13 @@
 //! bfd_edge: the outside, as the engine sees it.
 //!
-//! A [`Source`] gives bytes and a [`Sink`] takes them; a [`Link`] gives and takes packets, [`Ports`] open links by number, and a
-//! [`Ticker`] gives ticks. Each may tell what it gave, took or has left, and each keeps a count of faults, so that a caller's
+//! A [`Source`] gives bytes and a [`Sink`] accepts them; a [`Link`] gives and accepts packets, [`Ports`] open links by number, and a
+//! [`Ticker`] gives ticks. Each may report what it gave, accepted or has left, and each keeps a count of faults, so that a caller's
 //! contract can say that a failure came from the outside and from nowhere else: a call answers `Failed` only where that count
 //! rose in it. A [`Gate`] is a meeting point for tests.
 //!
-//! [`MemSource`], [`MemSink`], [`MemLink`], [`MemPorts`] and [`MemTicker`] are forms over memory that tell all and fail where they
-//! are told to. [`StdSource`] and [`StdSink`] stand over std's readers and writers: they are the trusted edge, and tell of content
-//! only what std's type tells. The adapters over UDP and the clock stand in `bfd_net`.
+//! [`MemSource`], [`MemSink`], [`MemLink`], [`MemPorts`] and [`MemTicker`] are forms over memory that report all and fail where they
+//! are asked to. [`StdSource`] and [`StdSink`] stand over std's readers and writers: they are the trusted edge, and report of content
+//! only what std's type reports. The adapters over UDP and the clock stand in `bfd_net`.
 //!
 //! Modules: `outside` (sources and sinks), `link`, `ports`, `ticker` and `gate` have the traits; `places` what ports keep of each
 //! number; `memory`, `memory_link`, `memory_ports` and `memory_ticker` the forms over memory; `adapters` those over std.

@@ -1,4 +1,4 @@
-// Links: what packets come from and go to.
+//! Links: what packets come from and go to.
 
 use crate::fault::Fault;
 use bfd_num::Moment;
@@ -19,7 +19,7 @@ pub enum Received {
     /// The link failed: its count of failed receives rose in this call.
     Failed,
 
-    /// There was no memory for the packet.
+    /// Out of memory for the packet.
     Memory,
 }
 
@@ -82,24 +82,24 @@ impl LinkCounts {
 
 /// Something that packets come from and go to, as a UDP socket does.
 ///
-/// It always tells the number by which it was opened, which every call keeps, and its counts. A link over memory tells besides
+/// It always reports the number by which it was opened, which every call keeps, and its counts. A link over memory also reports
 /// what it received and sent, each in order.
 pub trait Link {
     ghost use Rattle.std.specs.Prelude.{◌≡◌};
     ghost use Rattle.bfd_edge.specs.Links.{LinkTold, after_receive, after_send};
 
-    // What it tells.
+    // What it reports.
     ghost told: { Self → LinkTold };
 
     /// Asks for the next packet, and may wait for a while.
     ///
     /// `Got` and `Quiet` raise the count of what was given, `Ended` is remembered, `Failed` raises the count of failed
-    /// receives, and `Memory` leaves all that the link tells.
+    /// receives, and `Memory` leaves all that the link reports.
     fn receive(&mut self) -> Received
         ensures { told self.new ≡ after_receive result (told self.old) };
 
     /// Sends a packet. `Failed` raises the count of failed sends, and the packet is not sent; `Memory` leaves all that the
-    /// link tells.
+    /// link reports.
     fn send(&mut self, datagram: &Datagram) -> Result<(), Fault>
         ensures { told self.new ≡ after_send datagram.now result (told self.old) };
 }

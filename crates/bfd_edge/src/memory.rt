@@ -1,5 +1,5 @@
-// The outside over memory.
-ghost use Rattle.std.specs.Prelude.{◌≡◌, ◌≢◌, ◌⊎◌, ℕ, ◌<◌, ◌++◌, [], List, Option, Some, length, min, IfOk, IsErrOf, IsTrue, ◌↔◌, Ok, take, drop};
+//! The outside over memory.
+ghost use Rattle.std.specs.Prelude.{◌≡◌, ◌≢◌, ◌⊎◌, ℕ, ◌<◌, ◌++◌, [], List, Option, Some, length, min, IfOk, IsErrOf, IsTrue, ◌↔◌, Ok, take, drop, true, false, None};
 ghost use Rattle.std.specs.Io.{ReadsAtMost, WritesAtMost};
 ghost use Rattle.std.specs.Io.KnownBytes.{ReadConsumes, WriteAppends};
 ghost use Rattle.bfd_edge.specs.Faults.{HasCause, Rose, raised};
@@ -62,7 +62,7 @@ impl MemSource {
     }
 }
 
-/// Copies as many bytes as fit to the front of `to`, at most `chunk`, and answers how many.
+/// Copies as many bytes as fit to the start of `to`, at most `chunk`, and answers how many.
 fn copy_front(from: &[u8], to: &mut [u8], chunk: usize) -> usize
     ensures count { result ≡ min (min (length to.old) chunk) (length from.now) }
     ensures copied { to.new ≡ take result from.now ++ drop result to.old }
@@ -101,7 +101,7 @@ impl Source for MemSource {
     }
 }
 
-/// A sink that keeps what it takes in memory. Contracts see it as the record `Taken`.
+/// A sink that keeps in memory what it accepts. Contracts see it as the record `Taken`.
 #[derive(Drop)]
 pub struct MemSink {
     bytes: Vec<u8>,
@@ -129,7 +129,7 @@ impl Model for MemSink {
 }
 
 impl MemSink {
-    /// A sink that takes at most `chunk` bytes in one call, and fails at the calls named, counted from 0.
+    /// A sink that accepts at most `chunk` bytes in one call, and fails at the calls named, counted from 0.
     pub fn make(alloc: Global, chunk: usize, fails: Vec<u64>) -> Self
         requires { chunk ≢ 0 }
         ensures { result ≡ record { bytes = []; chunk = chunk; calls = 0; fails = fails.items; faults = 0 } }
@@ -143,7 +143,7 @@ impl MemSink {
         }
     }
 
-    /// The bytes that were taken.
+    /// The bytes that were accepted.
     pub fn as_slice(&self) -> &[u8]
         ensures { result.now ≡ self.now.bytes }
     {
@@ -156,7 +156,14 @@ impl Sink for MemSink {
 
     ghost faults = { λ s. s.faults };
 
-    /// Takes as much as `chunk` allows, or fails where this call is one of those named. `Memory` leaves all but the
+    fn is_read(&self) -> bool
+        ensures read { result ≡ true }
+        ensures unread { result ≡ false → Some self.now.bytes ≡ None }
+    {
+        true
+    }
+
+    /// Accepts as much as `chunk` allows, or fails where this call is one of those named. `Memory` leaves all but the
     /// number of calls as it was.
     fn write(&mut self, piece: &[u8]) -> Result<usize, Fault>
         ensures answer { AnswersWrite self.old piece.now result self.new }

@@ -1,4 +1,4 @@
-// A link over memory.
+//! A link over memory.
 ghost use Rattle.std.specs.Prelude.{◌≡◌, [], slice_get};
 ghost use Rattle.bfd_edge.specs.Links.{after_receive, after_send, no_counts};
 ghost use Rattle.bfd_edge.specs.MemoryLink.{told_of, items_used, Answers, AnswersSend, Hears};

@@ -1,4 +1,4 @@
-// Ports over memory.
+//! Ports over memory.
 ghost use Rattle.std.specs.Prelude.{◌≡◌, [], true, false, IfOk, MatchOption};
 ghost use Rattle.bfd_edge.specs.Links.{IsNewLink};
 ghost use Rattle.bfd_edge.specs.Ports.{after_open, after_shut};
@@ -109,7 +109,7 @@ impl Ports for MemPorts {
         }
     }
 
-    /// Keeps the link under its number, and leaves all else. It takes no memory.
+    /// Keeps the link under its number, and leaves all else. It allocates no memory.
     fn shut(&mut self, number: u32, link: MemLink)
         requires opened { (told_of self.old).opened number ≡ true }
         requires number { link.number ≡ number }

@@ -1,4 +1,4 @@
-// A ticker over memory.
+//! A ticker over memory.
 ghost use Rattle.std.specs.Prelude.{◌≡◌, [], false};
 ghost use Rattle.bfd_edge.specs.Tickers.{after_next, IsInOrder};
 ghost use Rattle.bfd_edge.specs.MemoryTicker.{told_of, next_of, ticker_after};

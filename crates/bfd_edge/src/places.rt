@@ -1,4 +1,4 @@
-// What became of each number of the ports.
+//! What became of each number of the ports.
 ghost use Rattle.std.specs.Prelude.{◌≡◌, ◌<◌, true, false, [], MatchOption, OnOk, OnErr, vec_len};
 ghost use Rattle.bfd_edge.specs.Places.{is_opened, is_shut, place_in, with_place};
 
@@ -65,7 +65,7 @@ impl<T: Drop> Places<T> {
         Ok(())
     }
 
-    /// Shuts a number that was opened, and keeps this. It takes no memory.
+    /// Shuts a number that was opened, and keeps this. It allocates no memory.
     pub fn shut(&mut self, number: u32, kept: T)
         requires { is_opened (place_in self.old number) ≡ true }
         ensures { place_in self.new ≡ with_place number (Place.Shut kept) (place_in self.old) }

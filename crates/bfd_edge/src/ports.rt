@@ -1,11 +1,11 @@
-// Ports: what links are opened from and shut to.
+//! Ports: what links are opened from and shut to.
 
 use crate::fault::Fault;
 use crate::link::Link;
 
 /// Something that opens links by number, as a machine opens sockets.
 ///
-/// It always tells which numbers were opened, what the link of each number that was shut told then, and how often opening
+/// It always reports which numbers were opened, what the link of each number that was shut reported then, and how often opening
 /// failed.
 pub trait Ports {
     ghost use Rattle.std.specs.Prelude.{◌≡◌, true, false, IfOk};
@@ -15,10 +15,10 @@ pub trait Ports {
     /// Its links.
     type Link: Link + Drop;
 
-    // What it tells.
+    // What it reports.
     ghost told: { Self → PortsTold };
 
-    /// Opens the link of a number that wasn't opened before. The link is one that was never called, and tells the number.
+    /// Opens the link of a number that wasn't opened before. The link is one that was never called, and reports the number.
     ///
     /// `Failed` raises the count of faults, and `Memory` leaves it; after both the number isn't opened.
     fn open(&mut self, number: u32) -> Result<Self::Link, Fault>
@@ -27,7 +27,7 @@ pub trait Ports {
         ensures number { IfOk result (λ link. (Self.Link.told link).number ≡ number) }
         ensures after { told self.new ≡ after_open number result (told self.old) };
 
-    /// Takes back the link that was opened by this number, and keeps what it tells.
+    /// Accepts back the link that was opened by this number, and keeps what it reports.
     fn shut(&mut self, number: u32, link: Self::Link)
         requires opened { (told self.old).opened number ≡ true }
         requires number { (Self.Link.told link).number ≡ number }

@@ -1,4 +1,4 @@
-// Tickers: what ticks come from.
+//! Tickers: what ticks come from.
 
 use bfd_num::Tick;
 
@@ -17,13 +17,13 @@ pub enum Next {
 
 /// Something that ticks come from, as a clock does.
 ///
-/// It always tells its count of faults, how many ticks it gave and whether it ended. A ticker over memory tells besides
+/// It always reports its count of faults, how many ticks it gave and whether it ended. A ticker over memory also reports
 /// which ticks it gave, and which are left.
 pub trait Ticker {
     ghost use Rattle.std.specs.Prelude.{◌≡◌};
     ghost use Rattle.bfd_edge.specs.Tickers.{TickerTold, after_next, IsInOrder};
 
-    // What it tells.
+    // What it reports.
     ghost told: { Self → TickerTold };
 
     /// Asks for the next tick, and may wait for it.

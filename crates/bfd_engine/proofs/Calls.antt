@@ -6,7 +6,8 @@ use Rattle.std.specs.Fn.{FnReturns}
 use denote.Param.Members.{Shared}
 
 -- .. is what each job's place gives
-pub gives_each : {F J R : Type 0} (g : Shared F (J × Unit {0}) R) (f : F) (jobs : List J) (given : List R) → AllZip (λ job x. FnReturns g f (job, tt) x) jobs given → GivesJobs g f jobs given
+pub gives_each : {F J R : Type 0} (g : Shared F (J × Unit {0}) R) (f : F) (jobs : List J) (given : List R)
+    → AllZip (λ job x. FnReturns g f (job, tt) x) jobs given → GivesJobs g f jobs given
 gives_each g f [] given zip i d h = absurd (omega (arith, h))
 gives_each g f (j ∷ jobs) [] zip i d h = absurd zip
 gives_each g f (j ∷ jobs) (x ∷ given) zip zero d h = (refl, record { job = j; job_read = refl; job_is = λ _. refl; call = zip.0 })
@@ -15,7 +16,8 @@ gives_each g f (j ∷ jobs) (x ∷ given) zip (suc i) d h =
     (refl, record { job = k.job; job_read = k.job_read; job_is = k.job_is; call = k.call })
 
 -- a call more
-pub zip_more : {A B : Type 0} (R : A → B → Type 0) (xs : List A) (ys : List B) {x : A} {y : B} → AllZip R xs ys → R x y → AllZip R (xs ++ x ∷ []) (ys ++ y ∷ [])
+pub zip_more : {A B : Type 0} (R : A → B → Type 0) (xs : List A) (ys : List B) {x : A} {y : B} → AllZip R xs ys → R x y
+    → AllZip R (xs ++ x ∷ []) (ys ++ y ∷ [])
 zip_more R [] [] zip r = (r, tt)
 zip_more R [] (y ∷ ys) zip r = absurd zip
 zip_more R (x ∷ xs) [] zip r = absurd zip

@@ -1,5 +1,7 @@
 -- What an arrival comes to, as a call.
-use Rattle.bfd_engine.proofs.Common.{◌≡◌, ◌++◌, ℕ, List, [], ◌∷◌, Result, Ok, Err, refl, sym, subst, append-nil, Arrival, Datagram, Test, Out, Answer, Event, EngineFault, Shards, Knows, IsDone, coming_act, reflect_act, arrival_judged, comes_to, table_of, IsTaken}
+use Rattle.bfd_engine.proofs.Common.{◌≡◌, ◌++◌, ℕ, List, [], ◌∷◌, Result, Ok, Err, refl, sym, subst, append-nil, Arrival, Datagram, Test}
+use Rattle.bfd_engine.proofs.Common.{Out, Answer, Event, EngineFault, Shards, Knows, IsDone, coming_act, reflect_act, arrival_judged}
+use Rattle.bfd_engine.proofs.Common.{comes_to, table_of, IsTaken}
 use Rattle.std.specs.Result.{result_err}
 use Rattle.bfd_packet.specs.Layout.{fields_of}
 use Rattle.bfd_sbfd.specs.Reflect.{reflect}
@@ -20,7 +22,8 @@ abbrev pub Comes : Arrival → Coming → Shards → Type 0
 Comes arrival x engine = IsComing engine.configs engine.pool arrival (destination engine arrival) x
 
 -- an own event of a session, which takes it
-pub own_event : (engine : Shards) (arrival : Arrival) (d : Destination) (place : ℕ) (event : Event) → IsComing engine.configs engine.pool arrival d (coming.Own place event)
+pub own_event : (engine : Shards) (arrival : Arrival) (d : Destination) (place : ℕ) (event : Event)
+    → IsComing engine.configs engine.pool arrival d (coming.Own place event)
     → (d ≡ OwnEvent place event) × IsTaken engine.configs place event
 own_event engine arrival (Discarded t) place event h = absurd (cc)
 own_event engine arrival (OwnEvent p e) place event h =
@@ -59,18 +62,24 @@ module _ (engine : Shards) (moment : ℕ) (arrival : Arrival) (k : Knows) where
       by (Ok datagram) e = (cc, refl)
 
   pub discarded_done : (outs : List Out) (test : Test) → Comes arrival (coming.Discarded test) engine
-      → IsDone (coming_act engine moment arrival (destination engine arrival)) engine k k outs outs (Ok (Dropped test)) × arrival_judged engine moment arrival (destination engine arrival) k (Dropped test)
+      → IsDone (coming_act engine moment arrival (destination engine arrival)) engine k k outs outs (Ok (Dropped test))
+      × arrival_judged engine moment arrival (destination engine arrival) k (Dropped test)
   discarded_done outs test h =
       let d = discarded (destination engine arrival) h in
       (subst (λ (a : Act). IsDone a engine k k outs outs (Ok (Dropped test))) (sym d.0) (refl, refl, sym (append-nil outs)), d.1)
 
-  pub answered_done : (outs : List Out) {outs2 : List Out} (out : Out) → Comes arrival (coming.Answered out) engine → outs2 ≡ outs ++ out ∷ []
-      → IsDone (coming_act engine moment arrival (destination engine arrival)) engine k k outs outs2 (Ok Handled) × arrival_judged engine moment arrival (destination engine arrival) k Handled
+  pub answered_done : (outs : List Out) {outs2 : List Out} (out : Out) → Comes arrival (coming.Answered out) engine
+      → outs2 ≡ outs ++ out ∷ []
+      → IsDone (coming_act engine moment arrival (destination engine arrival)) engine k k outs outs2 (Ok Handled)
+      × arrival_judged engine moment arrival (destination engine arrival) k Handled
   answered_done outs {outs2} out h pushed =
       let d = answered (destination engine arrival) h in
       (subst (λ (a : Act). IsDone a engine k k outs outs2 (Ok Handled)) (sym d.0) (refl, refl, pushed), d.1)
 
-  pub own_done : (l : Knows) (outs outs2 : List Out) (result : Result Answer EngineFault) (place : ℕ) (event : Event) → Comes arrival (coming.Own place event) engine
-      → IsDone (own_act engine moment place event) engine k l outs outs2 result → IsDone (coming_act engine moment arrival (destination engine arrival)) engine k l outs outs2 result
+  pub own_done : (l : Knows) (outs outs2 : List Out) (result : Result Answer EngineFault) (place : ℕ) (event : Event)
+      → Comes arrival (coming.Own place event) engine
+      → IsDone (own_act engine moment place event) engine k l outs outs2 result
+      → IsDone (coming_act engine moment arrival (destination engine arrival)) engine k l outs outs2 result
   own_done l outs outs2 result place event h done =
-      subst (λ (d : Destination). IsDone (coming_act engine moment arrival d) engine k l outs outs2 result) (sym (own_event engine arrival (destination engine arrival) place event h).0) done
+      subst (λ (d : Destination). IsDone (coming_act engine moment arrival d) engine k l outs outs2 result)
+      (sym (own_event engine arrival (destination engine arrival) place event h).0) done

@@ -41,7 +41,8 @@ demux_sync : IsSync Demux.the_row
 demux_sync = view_sync _ _ _ _ _ (declared_sync inside.the_type (
   listed.the_sync Row.the_row,
   (
-    Vec-sync _ (declared_sync (tuple_type (Name.the_row ∷ Option.the_row Port.the_row ∷ [])) (name.the_sync, (search (sendable, crosses) depth 20, tt))),
+    Vec-sync _ (declared_sync (tuple_type (Name.the_row ∷ Option.the_row Port.the_row ∷ []))
+        (name.the_sync, (search (sendable, crosses) depth 20, tt))),
     (
       Vec-sync _ (declared_sync (tuple_type (RowKind.the_row ∷ u32 ∷ [])) (kind.the_sync, (search (sendable, crosses) depth 20, tt))),
       (search (sendable, crosses) depth 20, (ends.the_sync, (ends.the_sync, tt))),
@@ -50,7 +51,8 @@ demux_sync = view_sync _ _ _ _ _ (declared_sync inside.the_type (
 ))
 
 roster_sync : IsSync Roster.the_row
-roster_sync = view_sync _ _ _ _ _ (declared_sync roster.the_type (search (sendable, crosses) depth 20, (listed.the_sync SessionConfig.the_row, tt)))
+roster_sync = view_sync _ _ _ _ _ (declared_sync roster.the_type
+    (search (sendable, crosses) depth 20, (listed.the_sync SessionConfig.the_row, tt)))
 
 pub table_sync : IsSync Table.the_row
 table_sync = view_sync _ _ _ _ _ (declared_sync table.the_type (demux_sync, (roster_sync, (Vec-sync _ reflector.the_sync, tt))))

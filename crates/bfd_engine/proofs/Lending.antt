@@ -1,5 +1,8 @@
 -- A turn that is held, and one that isn't given.
-use Rattle.bfd_engine.proofs.Common.{◌≡◌, ◌<◌, ℕ, List, set, length-set, Some, None, slice_get, refl, ap, sym, ◌∙◌, subst, arith, slice_get_within, dite, ℕ_discrete, TableId, IsBack, WasBusy, WasSpent, having_met, Base, Entry, by, OfShard, Shards, Held, Knows, IsOf, IsCallers, base_at, seen_of, met_word_of, taken_of, made_of, kept_of, Adds, HasTaken, HasMet, IsKept}
+use Rattle.bfd_engine.proofs.Common.{◌≡◌, ◌<◌, ℕ, List, set, length-set, Some, None, slice_get, refl, ap, sym, ◌∙◌, subst, arith}
+use Rattle.bfd_engine.proofs.Common.{slice_get_within, dite, ℕ_discrete, TableId, IsBack, WasBusy, WasSpent, having_met, Base, Entry, by}
+use Rattle.bfd_engine.proofs.Common.{OfShard, Shards, Held, Knows, IsOf, IsCallers, base_at, seen_of, met_word_of, taken_of, made_of}
+use Rattle.bfd_engine.proofs.Common.{kept_of, Adds, HasTaken, HasMet, IsKept}
 use Rattle.bfd_turn.specs.Refusals.{IsRefused}
 use Rattle.bfd_turn.specs.declared.fault.TryFault.{TryFault}
 use Rattle.bfd_turn.specs.declared.fault.TryFault.TheVariants.{Busy as TryBusy, Spent as TrySpent}
@@ -9,7 +12,8 @@ use Rattle.bfd_engine.proofs.Turning.{at_place, elsewhere, same_at}
 
 pub has_taken : {engine : Shards} (shard : ℕ) {k l : Knows} {p : K} {id : TableId} {w : OfShard} {notes : List Entry} → IsOf engine k.1
     → slice_get k.1 shard ≡ Some (Some p) → IsCallers k.0 k.2 p.1 → l ≡ (k.0, set k.1 shard None, k.2) → id ≡ p.0
-    → w ≡ record p.1 { seen = notes; word = w.word; looks = w.looks } → p.1.word < w.word → Adds by p.1.number p.1.seen notes → HasTaken engine shard k l (shard, id, w)
+    → w ≡ record p.1 { seen = notes; word = w.word; looks = w.looks } → p.1.word < w.word → Adds by p.1.number p.1.seen notes
+    → HasTaken engine shard k l (shard, id, w)
 has_taken shard {k} {p} of here callers is lock same later adds = record {
   between = adds.0;
   shard_is = refl;
@@ -31,7 +35,8 @@ has_taken shard {k} {p} of here callers is lock same later adds = record {
   kept = cc;
 }
 
-has_met : (k : Knows) {l : Knows} (shard : ℕ) {word : ℕ} {looks : List ℕ} {p : K} (q : K) → slice_get k.1 shard ≡ Some (Some p) → l ≡ (k.0, set k.1 shard (Some q), k.2) → q.1 ≡ having_met word looks p.1
+has_met : (k : Knows) {l : Knows} (shard : ℕ) {word : ℕ} {looks : List ℕ} {p : K} (q : K) → slice_get k.1 shard ≡ Some (Some p)
+    → l ≡ (k.0, set k.1 shard (Some q), k.2) → q.1 ≡ having_met word looks p.1
     → HasMet word shard k l
 has_met k shard q here is met = record {
   number = cc;
@@ -44,16 +49,19 @@ has_met k shard q here is met = record {
   word_elsewhere = λ r other. ap met_word_of (elsewhere k q is other);
 }
 
-pub was_busy : (k : Knows) {l : Knows} (shard : ℕ) {read found : ℕ} {p : K} (q : K) → slice_get k.1 shard ≡ Some (Some p) → l ≡ (k.0, set k.1 shard (Some q), k.2)
+pub was_busy : (k : Knows) {l : Knows} (shard : ℕ) {read found : ℕ} {p : K} (q : K) → slice_get k.1 shard ≡ Some (Some p)
+    → l ≡ (k.0, set k.1 shard (Some q), k.2)
     → q.1 ≡ having_met found q.1.looks p.1 → WasBusy p.1 read found → IsKept (Busy read found) shard k l
 was_busy k shard {p} q here is met busy = (has_met k shard q here is met, (p, here, busy))
 
-pub was_spent : (k : Knows) {l : Knows} (shard : ℕ) {word : ℕ} {p : K} (q : K) → slice_get k.1 shard ≡ Some (Some p) → l ≡ (k.0, set k.1 shard (Some q), k.2)
+pub was_spent : (k : Knows) {l : Knows} (shard : ℕ) {word : ℕ} {p : K} (q : K) → slice_get k.1 shard ≡ Some (Some p)
+    → l ≡ (k.0, set k.1 shard (Some q), k.2)
     → q.1 ≡ having_met word q.1.looks p.1 → WasSpent p.1 word → IsKept (Spent word) shard k l
 was_spent k shard {p} q here is met spent = (has_met k shard q here is met, (p, here, spent))
 
 -- what a refusal tells, of the fault that it is
-pub busy_is : (id : TableId) (v : OfShard) {f : TryFault Entry Base} {pass : K} {read found : ℕ} → f ≡ TryBusy pass read found → IsRefused id v f
+pub busy_is : (id : TableId) (v : OfShard) {f : TryFault Entry Base} {pass : K} {read found : ℕ} → f ≡ TryBusy pass read found
+    → IsRefused id v f
     → IsBack id v found pass × WasBusy v read found
 busy_is id v {f} {pass} {read} {found} is h = let w : IsRefused id v (TryBusy pass read found) = subst (IsRefused id v) is h in (w.0, w.1)
 
@@ -74,7 +82,8 @@ of_back engine ps at q out lock base of =
     }
 
 -- a pass that gave its turn back is the caller's still
-pub still : {number used : ℕ} {p : OfShard} (q : OfShard) → q.number ≡ p.number → q.made ≡ p.made → IsCallers number used p → IsCallers number used q
+pub still : {number used : ℕ} {p : OfShard} (q : OfShard) → q.number ≡ p.number → q.made ≡ p.made → IsCallers number used p
+    → IsCallers number used q
 still q same made c = record {
   number_is = cc;
   used_up = rw made c.used_up;

@@ -1,5 +1,8 @@
 -- Shards that are opened one after another.
-use Rattle.bfd_engine.proofs.Common.{◌≡◌, ℕ, zero, suc, ◌<◌, ◌≤◌, List, [], ◌∷◌, ◌++◌, length, map, length-map, Some, slice_get, get_or, refl, ap, sym, ◌∙◌, arith, slice_get_within, same_Some, SessionConfig, TableId, opened_pass, Shards, Held, AllOf, IsOf, AllThere, IsEngine, configs_at, seen_of, met_word_of, taken_of, made_of, kept_of, IsNewPass, opened_base, IsOpenedShard, IsMade, AreOpened, AreShares, share, Reflector, All-nil}
+use Rattle.bfd_engine.proofs.Common.{◌≡◌, ℕ, zero, suc, ◌<◌, ◌≤◌, List, [], ◌∷◌, ◌++◌, length, map, length-map, Some, slice_get, get_or}
+use Rattle.bfd_engine.proofs.Common.{refl, ap, sym, ◌∙◌, arith, slice_get_within, same_Some, SessionConfig, TableId, opened_pass, Shards}
+use Rattle.bfd_engine.proofs.Common.{Held, AllOf, IsOf, AllThere, IsEngine, configs_at, seen_of, met_word_of, taken_of, made_of, kept_of}
+use Rattle.bfd_engine.proofs.Common.{IsNewPass, opened_base, IsOpenedShard, IsMade, AreOpened, AreShares, share, Reflector, All-nil}
 use Rattle.bfd_engine.proofs.Places.{K, same_held}
 
 abbrev pub Parts : Type 0
@@ -17,7 +20,8 @@ AreMade limit (part ∷ parts) (one ∷ made) = IsMade limit part one × AreMade
 
 module _ (limit : ℕ) where
   -- one part more is made
-  pub parts_more : {V : Type 0} (f : V → List SessionConfig) (yielded : List V) (made : List Made) (part : V) (one : Made) → AreMade limit (map f yielded) made → IsMade limit (f part) one → AreMade limit (map f (yielded ++ part ∷ [])) (made ++ one ∷ [])
+  pub parts_more : {V : Type 0} (f : V → List SessionConfig) (yielded : List V) (made : List Made) (part : V) (one : Made)
+      → AreMade limit (map f yielded) made → IsMade limit (f part) one → AreMade limit (map f (yielded ++ part ∷ [])) (made ++ one ∷ [])
   parts_more f [] [] part one m is = (is, tt)
   parts_more f [] (x ∷ made) part one m is = absurd m
   parts_more f (p ∷ parts) [] part one m is = absurd m
@@ -25,11 +29,15 @@ module _ (limit : ℕ) where
 
   -- what each part gives is made of it
   pub made_each : {V : Type 0} (f : V → List SessionConfig) (parts : List V) (made : List Made) → length made ≡ length parts
-      → ((k : ℕ) (v : V) (d : Made) → k < length parts → get_or parts k v ≡ v → IsMade limit (f v) (get_or made k d)) → AreMade limit (map f parts) made
+      → ((k : ℕ) (v : V) (d : Made) → k < length parts → get_or parts k v ≡ v → IsMade limit (f v) (get_or made k d))
+      → AreMade limit (map f parts) made
   made_each f [] [] long each = tt
   made_each f [] (x ∷ made) long each = absurd (omega (arith, long))
   made_each f (p ∷ parts) [] long each = absurd (omega (arith, long))
-  made_each f (p ∷ parts) (x ∷ made) long each = (each 0 p x (omega arith) refl, made_each f parts made (omega (arith, long)) (λ k v d h e. each (suc k) v d (omega (arith, h)) e))
+  made_each f (p ∷ parts) (x ∷ made) long each = (
+    each 0 p x (omega arith) refl,
+    made_each f parts made (omega (arith, long)) (λ k v d h e. each (suc k) v d (omega (arith, h)) e),
+  )
 
   made_long : (parts : Parts) (made : List Made) → AreMade limit parts made → length made ≡ length parts
   made_long [] [] m = refl
@@ -37,16 +45,20 @@ module _ (limit : ℕ) where
   made_long (p ∷ parts) [] m = absurd m
   made_long (p ∷ parts) (x ∷ made) m = ap suc (made_long parts made m.1)
 
-  opened_at : (parts : Parts) (made : List Made) → AreMade limit parts made → (k : ℕ) (configs : List SessionConfig) → slice_get parts k ≡ Some configs
-      → IsOpenedShard limit configs (slice_get (map (λ s. s.0) made) k) (slice_get (map (λ s. Some s.1) made) k) (slice_get (map (λ s. s.2) made) k)
+  opened_at : (parts : Parts) (made : List Made) → AreMade limit parts made → (k : ℕ) (configs : List SessionConfig)
+      → slice_get parts k ≡ Some configs
+      → IsOpenedShard limit configs (slice_get (map (λ s. s.0) made) k) (slice_get (map (λ s. Some s.1) made) k)
+      (slice_get (map (λ s. s.2) made) k)
   opened_at [] made m k configs h = cc
   opened_at (p ∷ parts) [] m k configs h = absurd m
-  opened_at (p ∷ parts) (x ∷ made) m zero configs h = rw (← same_Some p configs h) (record { id = x.0; lock_is = refl; pass_is = cc (m.0.0); size_is = cc (m.0.1) })
+  opened_at (p ∷ parts) (x ∷ made) m zero configs h =
+      rw (← same_Some p configs h) (record { id = x.0; lock_is = refl; pass_is = cc (m.0.0); size_is = cc (m.0.1) })
   opened_at (p ∷ parts) (x ∷ made) m (suc k) configs h = opened_at parts made m.1 k configs h
 
   -- taken apart, they are opened
   pub opened : (parts : Parts) (made : List Made) → AreMade limit parts made → {locks : List TableId} {passes : List Held} {sizes : List ℕ}
-      → (locks ≡ map (λ s. s.0) made) × (passes ≡ map (λ s. Some s.1) made) × (sizes ≡ map (λ s. s.2) made) → AreOpened limit parts locks passes sizes
+      → (locks ≡ map (λ s. s.0) made) × (passes ≡ map (λ s. Some s.1) made) × (sizes ≡ map (λ s. s.2) made)
+      → AreOpened limit parts locks passes sizes
   opened parts made m e = rw (e.0, e.1, e.2) (record {
     locks_long = length-map made _ ∙ made_long parts made m;
     passes_long = length-map made _ ∙ made_long parts made m;
@@ -54,7 +66,8 @@ module _ (limit : ℕ) where
     each = opened_at parts made m;
   })
 
-module _ (limit n : ℕ) (configs : List SessionConfig) (parts : Parts) (locks : List TableId) (passes : List Held) (sizes : List ℕ) (s : AreShares n configs parts) (o : AreOpened limit parts locks passes sizes) where
+module _ (limit n : ℕ) (configs : List SessionConfig) (parts : Parts) (locks : List TableId) (passes : List Held) (sizes : List ℕ)
+    (s : AreShares n configs parts) (o : AreOpened limit parts locks passes sizes) where
   one : (k : ℕ) → k < n → IsOpenedShard limit (share n k configs) (slice_get locks k) (slice_get passes k) (slice_get sizes k)
   one k h = o.each k (share n k configs) (s.each k h)
 
@@ -81,7 +94,8 @@ module _ (limit n : ℕ) (configs : List SessionConfig) (parts : Parts) (locks :
       lock = λ k p e. (let x = one k (at k p e) in
           cc (same_held x.pass_is e));
       base_is = λ k p e. (
-          ap (λ q. q.1.base) (sym (same_held (one k (at k p e)).pass_is e)) ∙ ap (λ m. Some (opened_base limit (share m k configs))) (sym count));
+          ap (λ q. q.1.base) (sym (same_held (one k (at k p e)).pass_is e))
+          ∙ ap (λ m. Some (opened_base limit (share m k configs))) (sym count));
     }
 
     passes_there : AllThere passes
@@ -106,7 +120,8 @@ module _ (limit n : ℕ) (configs : List SessionConfig) (parts : Parts) (locks :
           kept = λ k h. ap kept_of (pass k h);
         }
 
-pub engine_is : {limit n : ℕ} {configs : List SessionConfig} (known : List SessionConfig) {parts : Parts} {locks : List TableId} {passes : List Held} {sizes : List ℕ} (pool : List Reflector)
+pub engine_is : {limit n : ℕ} {configs : List SessionConfig}
+    (known : List SessionConfig) {parts : Parts} {locks : List TableId} {passes : List Held} {sizes : List ℕ} (pool : List Reflector)
     → AreShares n configs parts → AreOpened limit parts locks passes sizes → known ≡ configs → 0 < n → n ≤ 64 → length configs ≤ 65536
     → IsEngine (record { locks = locks; configs = known; pool = pool; limit = limit }) sizes
 engine_is {limit} {n} {configs} known {parts} {locks} {passes} {sizes} pool s o same some few small =
@@ -118,6 +133,9 @@ engine_is {limit} {n} {configs} known {parts} {locks} {passes} {sizes} pool s o 
       sizes_are = sizes_are limit n configs parts locks passes sizes s o pool;
     })
 
-pub pass_is : {limit n : ℕ} {configs : List SessionConfig} (known : List SessionConfig) {parts : Parts} {locks : List TableId} {passes : List Held} {sizes : List ℕ} (pool : List Reflector)
-    → AreShares n configs parts → AreOpened limit parts locks passes sizes → known ≡ configs → IsNewPass (record { locks = locks; configs = known; pool = pool; limit = limit }) (0, passes, 0)
-pass_is {limit} {n} {configs} known {parts} {locks} {passes} {sizes} pool s o same = rw same (new_pass limit n configs parts locks passes sizes s o pool)
+pub pass_is : {limit n : ℕ} {configs : List SessionConfig}
+    (known : List SessionConfig) {parts : Parts} {locks : List TableId} {passes : List Held} {sizes : List ℕ} (pool : List Reflector)
+    → AreShares n configs parts → AreOpened limit parts locks passes sizes → known ≡ configs
+    → IsNewPass (record { locks = locks; configs = known; pool = pool; limit = limit }) (0, passes, 0)
+pass_is {limit} {n} {configs} known {parts} {locks} {passes} {sizes} pool s o same =
+    rw same (new_pass limit n configs parts locks passes sizes s o pool)

@@ -1,5 +1,6 @@
 -- Sessions and reflectors that ascend stand in order.
-use Rattle.bfd_engine.proofs.Common.{◌<◌, ◌≤◌, ℕ, List, [], ◌∷◌, map, arith, AllByRecursion, SessionConfig, discr_of, Ascends, Climbs, IsSorted, Reflector}
+use Rattle.bfd_engine.proofs.Common.{◌<◌, ◌≤◌, ℕ, List, [], ◌∷◌, map, arith, AllByRecursion, SessionConfig, discr_of, Ascends, Climbs}
+use Rattle.bfd_engine.proofs.Common.{IsSorted, Reflector}
 use Rattle.bfd_sbfd.specs.Reflect.{Ascends as PoolAscends}
 
 module _ {X : Type 0} (discr : X → ℕ) where

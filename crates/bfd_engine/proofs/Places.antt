@@ -1,5 +1,7 @@
 -- Passes at their places.
-use Rattle.bfd_engine.proofs.Common.{◌≡◌, ◌≢◌, ℕ, zero, suc, ◌<◌, List, [], ◌∷◌, ◌++◌, length, set, length-set, set-set, Option, Some, None, slice_get, refl, ap, ◌∙◌, arith, slice_get_within, same_Some, dite, ℕ_discrete, TableId, OfShard, Shards, Held, Knows, IsOf, AllThere}
+use Rattle.bfd_engine.proofs.Common.{◌≡◌, ◌≢◌, ℕ, zero, suc, ◌<◌, List, [], ◌∷◌, ◌++◌, length, set, length-set, set-set, Option, Some, None}
+use Rattle.bfd_engine.proofs.Common.{slice_get, refl, ap, ◌∙◌, arith, slice_get_within, same_Some, dite, ℕ_discrete, TableId, OfShard}
+use Rattle.bfd_engine.proofs.Common.{Shards, Held, Knows, IsOf, AllThere}
 
 module _ {X : Type 0} where
   pub set_here : (xs : List X) (i : ℕ) (x : X) → i < length xs → slice_get (set xs i x) i ≡ Some x
@@ -32,16 +34,20 @@ pub same_held : {p q : K} {o : Option Held} → o ≡ Some (Some p) → o ≡ So
 same_held {p} {q} e f = same_Some p q (same_Some (Some p) (Some q) (cc))
 
 -- a pass is lifted, and one put back
-pub put_back : (k l m : Knows) (at : ℕ) (q : K) → l ≡ (k.0, set k.1 at None, k.2) → m ≡ (l.0, set l.1 at (Some q), l.2) → m ≡ (k.0, set k.1 at (Some q), k.2)
+pub put_back : (k l m : Knows) (at : ℕ) (q : K) → l ≡ (k.0, set k.1 at None, k.2) → m ≡ (l.0, set l.1 at (Some q), l.2)
+    → m ≡ (k.0, set k.1 at (Some q), k.2)
 put_back k l m at q lifted put = rw (put, lifted, set-set) refl
 
 -- a pass of the same lock and base is put in
-pub of_set : (engine : Shards) (ps : List Held) (at : ℕ) (p q : K) → slice_get ps at ≡ Some (Some p) → q.0 ≡ p.0 → q.1.base ≡ p.1.base → IsOf engine ps → IsOf engine (set ps at (Some q))
+pub of_set : (engine : Shards) (ps : List Held) (at : ℕ) (p q : K) → slice_get ps at ≡ Some (Some p) → q.0 ≡ p.0 → q.1.base ≡ p.1.base
+    → IsOf engine ps → IsOf engine (set ps at (Some q))
 of_set engine ps at p q here same base of = record {
   long = length-set ps at (Some q) ∙ of.long;
-  lock = λ k r e. dite (ℕ_discrete k at) (λ is. let qr : q ≡ r = same_held (set_here ps at (Some q) (slice_get_within ps at (Some p) here)) (cc) in
+  lock = λ k r e. dite (ℕ_discrete k at) (λ is. let qr : q ≡ r =
+      same_held (set_here ps at (Some q) (slice_get_within ps at (Some p) here)) (cc) in
       cc (of.lock at p here)) (λ other. of.lock k r (cc (set_else ps at k (Some q) other)));
-  base_is = λ k r e. dite (ℕ_discrete k at) (λ is. let qr : q ≡ r = same_held (set_here ps at (Some q) (slice_get_within ps at (Some p) here)) (cc) in
+  base_is = λ k r e. dite (ℕ_discrete k at) (λ is. let qr : q ≡ r =
+      same_held (set_here ps at (Some q) (slice_get_within ps at (Some p) here)) (cc) in
       cc (of.base_is at p here)) (λ other. of.base_is k r (cc (set_else ps at k (Some q) other)));
 }
 
@@ -52,7 +58,8 @@ there_set ps at q all = record {
       (λ other. let t = all.at k inside in (t.0, set_else ps at k (Some q) other ∙ t.1)));
 }
 
-pub none_set : (engine : Shards) (ps : List Held) (at : ℕ) (p : K) → slice_get ps at ≡ Some (Some p) → IsOf engine ps → IsOf engine (set ps at None)
+pub none_set : (engine : Shards) (ps : List Held) (at : ℕ) (p : K) → slice_get ps at ≡ Some (Some p) → IsOf engine ps
+    → IsOf engine (set ps at None)
 none_set engine ps at p here of = record {
   long = length-set ps at None ∙ of.long;
   lock = λ k r e. dite (ℕ_discrete k at)

@@ -1,5 +1,10 @@
 -- The answer to an arrival tells the first test that it fails.
-use Rattle.bfd_engine.proofs.Common.{◌≡◌, ◌<◌, ◌+◌, ◌++◌, ◌∷◌, [], ℕ, zero, suc, List, length, Option, None, Some, Result, Ok, Err, IfOk, refl, slice_get, option_or, Arrival, Test, Row, Out, Target, Session, Echo, first_table_failing, target_of, Answer, Event, SessionConfig, coming_to, coming_by, comes_to, Running, table_of, reply, Entry, ShardEvent, Own, events_of, last_tick, outcome_of, run, runs, runs_from, IsTaken, Shards, Knows, configs_at, IsCall, IsDone, coming_act, seen_at, IsAnswered, packet_answer, return_answer, arrival_judged, EngineFault}
+use Rattle.bfd_engine.proofs.Common.{◌≡◌, ◌<◌, ◌+◌, ◌++◌, ◌∷◌, [], ℕ, zero, suc, List, length, Option, None, Some, Result, Ok, Err, IfOk}
+use Rattle.bfd_engine.proofs.Common.{refl, slice_get, option_or, Arrival, Test, Row, Out, Target, Session, Echo, first_table_failing}
+use Rattle.bfd_engine.proofs.Common.{target_of, Answer, Event, SessionConfig, coming_to, coming_by, comes_to, Running, table_of, reply}
+use Rattle.bfd_engine.proofs.Common.{Entry, ShardEvent, Own, events_of, last_tick, outcome_of, run, runs, runs_from, IsTaken, Shards, Knows}
+use Rattle.bfd_engine.proofs.Common.{configs_at, IsCall, IsDone, coming_act, seen_at, IsAnswered, packet_answer, return_answer}
+use Rattle.bfd_engine.proofs.Common.{arrival_judged, EngineFault}
 use Rattle.std.proofs.Common.{ap₂, sym, ◌∙◌, subst}
 use Rattle.bfd_session.specs.Arrivals.{Destination, Discarded, Reflected, Own as OwnEvent}
 use Rattle.bfd_engine.specs.Calls.{own_act}
@@ -26,20 +31,24 @@ own_answer last place moment event ss s there = cc
 only_own : {failing : Option Test} (own : Option Test) {all : Option Test} → all ≡ option_or failing own → None ≡ failing → own ≡ all
 only_own own is none = cc
 
-pub packet_is : (engine : Shards) (arrival : Arrival) (eff : ℕ) (s : Running) → None ≡ first_table_failing (table_of engine.configs engine.pool) arrival
+pub packet_is : (engine : Shards) (arrival : Arrival) (eff : ℕ) (s : Running)
+    → None ≡ first_table_failing (table_of engine.configs engine.pool) arrival
     → reply eff (Packet arrival) s ≡ packet_answer engine arrival eff s
 packet_is engine arrival eff s none = cc (
   reply_first s eff arrival,
-  only_own (first_own_failing s.config (judging eff s) arrival) (discards_first (table_of engine.configs engine.pool) s.config (judging eff s) arrival) none,
+  only_own (first_own_failing s.config (judging eff s) arrival)
+      (discards_first (table_of engine.configs engine.pool) s.config (judging eff s) arrival) none,
 )
 
 pub return_is : (sequence eff : ℕ) (s : Running) → reply eff (Returned sequence) s ≡ return_answer sequence eff s
 unfolding reply
 return_is sequence eff s = refl
 
-judged_call : {expected : ℕ → Running → Answer} {engine : Shards} {shard place moment : ℕ} {event : Event} {k l : Knows} {outs outs2 : List Out} {answer : Answer}
+judged_call : {expected : ℕ → Running → Answer} {engine : Shards} {shard place moment : ℕ} {event : Event} {k l : Knows} {outs outs2 : List
+    Out} {answer : Answer}
     → ((eff : ℕ) (s : Running) → reply eff event s ≡ expected eff s) → IsTaken (configs_at engine shard) place event
-    → IsCall engine shard (Own place moment event) k l outs outs2 answer → IsAnswered expected engine shard place moment event l.0 (seen_at l shard) answer
+    → IsCall engine shard (Own place moment event) k l outs outs2 answer
+    → IsAnswered expected engine shard place moment event l.0 (seen_at l shard) answer
 judged_call {engine} {shard} {place} {moment} {event} {k} is taken call =
     let before : List Entry = seen_at k shard ++ call.between in
     let s = runs_there 0 (events_of before) (configs_at engine shard) place _ taken.there in record {
@@ -47,7 +56,11 @@ judged_call {engine} {shard} {place} {moment} {event} {k} is taken call =
       last = cc;
       session = s.0;
       there = s.1;
-      answered = cc (own_answer (last_tick (events_of before)) place moment event (runs (events_of before) (configs_at engine shard)) s.0 s.1, is (effective moment (last_tick (events_of before)) s.0) s.0);
+      answered = cc (
+        own_answer (last_tick (events_of before)) place moment event (runs (events_of before) (configs_at engine shard)) s.0
+            s.1,
+        is (effective moment (last_tick (events_of before)) s.0) s.0,
+      );
     }
 
 -- what an arrival that comes to this is, where it is an own event of a session
@@ -56,9 +69,12 @@ Taken configs (Discarded test) = Unit {0}
 Taken configs (Reflected place) = Unit {0}
 Taken configs (OwnEvent place event) = IsTaken configs place event
 
-judged_target : (target : Target) (engine : Shards) (moment : ℕ) (arrival : Arrival) (k l : Knows) (outs outs2 : List Out) (result : Result Answer EngineFault)
-    → 0 < length engine.locks → None ≡ first_table_failing (table_of engine.configs engine.pool) arrival → {place : ℕ} {event : Event} → coming_to (Some target) arrival ≡ OwnEvent place event
-    → Taken engine.configs (coming_to (Some target) arrival) → IsDone (coming_act engine moment arrival (coming_to (Some target) arrival)) engine k l outs outs2 result
+judged_target : (target : Target) (engine : Shards) (moment : ℕ) (arrival : Arrival) (k l : Knows) (outs outs2 : List Out)
+    (result : Result Answer EngineFault)
+    → 0 < length engine.locks → None ≡ first_table_failing (table_of engine.configs engine.pool) arrival → {place : ℕ} {event : Event}
+    → coming_to (Some target) arrival ≡ OwnEvent place event
+    → Taken engine.configs (coming_to (Some target) arrival)
+    → IsDone (coming_act engine moment arrival (coming_to (Some target) arrival)) engine k l outs outs2 result
     → IfOk result (λ answer. arrival_judged engine moment arrival (coming_to (Some target) arrival) l answer)
 judged_target (Session place) engine moment arrival k l outs outs2 (Ok answer) some none own taken h = judged_call
     (λ eff s. packet_is engine arrival eff s none) (dealt_event engine _ _ _ refl some taken) h
@@ -73,15 +89,22 @@ record IsFor (rows : List Row) (arrival : Arrival) : Type 0 where
   passes : None ≡ first_table_failing rows arrival
   is : coming_to (Some target) arrival ≡ comes_to rows arrival
 
-is_for : (rows : List Row) (arrival : Arrival) (f : Option Test) (o : Option Target) {place : ℕ} {event : Event} → first_table_failing rows arrival ≡ f → target_of rows arrival ≡ o
+is_for : (rows : List Row) (arrival : Arrival) (f : Option Test) (o : Option Target) {place : ℕ} {event : Event}
+    → first_table_failing rows arrival ≡ f → target_of rows arrival ≡ o
     → coming_by f o arrival ≡ OwnEvent place event → IsFor rows arrival
 is_for rows arrival (Some test) o e t own = absurd (cc)
 is_for rows arrival None None e t own = absurd (cc)
-is_for rows arrival None (Some target) e t own = record { target = target; passes = sym e; is = sym (ap₂ (λ f o. coming_by f o arrival) e t) }
+is_for rows arrival None (Some target) e t own = record {
+  target = target;
+  passes = sym e;
+  is = sym (ap₂ (λ f o. coming_by f o arrival) e t);
+}
 
 -- an own event of a session, for which an arrival is
-pub judged_own_event : (engine : Shards) (moment : ℕ) (arrival : Arrival) (k l : Knows) (outs outs2 : List Out) (result : Result Answer EngineFault) {place : ℕ} {event : Event}
-    → 0 < length engine.locks → comes_to (table_of engine.configs engine.pool) arrival ≡ OwnEvent place event → IsTaken engine.configs place event
+pub judged_own_event : (engine : Shards) (moment : ℕ) (arrival : Arrival) (k l : Knows) (outs outs2 : List Out)
+    (result : Result Answer EngineFault) {place : ℕ} {event : Event}
+    → 0 < length engine.locks → comes_to (table_of engine.configs engine.pool) arrival ≡ OwnEvent place event
+    → IsTaken engine.configs place event
     → IsDone (own_act engine moment place event) engine k l outs outs2 result
     → IfOk result (λ answer. arrival_judged engine moment arrival (comes_to (table_of engine.configs engine.pool) arrival) l answer)
 judged_own_event engine moment arrival k l outs outs2 result {place} {event} some own taken done =

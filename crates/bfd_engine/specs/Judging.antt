@@ -31,7 +31,8 @@ abbrev pub return_answer : ℕ → ℕ → Running → Answer
 return_answer sequence eff s = answer_to_return (awaits s.config sequence (settled s.config eff eff (begun (Some eff) s [])))
 
 -- an own event that ends all that was seen has this answer of its session, as the entries before have left it
-pub record IsAnswered (expected : ℕ → Running → Answer) (engine : Shards) (shard place moment : ℕ) (event : Event) (caller : ℕ) (seen : List Entry) (answer : Answer) : Type 0 where
+pub record IsAnswered (expected : ℕ → Running → Answer) (engine : Shards) (shard place moment : ℕ) (event : Event) (caller : ℕ)
+    (seen : List Entry) (answer : Answer) : Type 0 where
   pub before : List Entry
   pub last : seen ≡ before ++ entry_of caller (Own place moment event) ∷ []
   pub session : Running
@@ -40,7 +41,8 @@ pub record IsAnswered (expected : ℕ → Running → Answer) (engine : Shards) 
 
 abbrev pub answered_at : (ℕ → Running → Answer) → Shards → ℕ → ℕ → Event → Knows → Answer → Type 0
 answered_at expected engine moment k event l answer =
-    IsAnswered expected engine (k % length engine.locks) (k / length engine.locks) moment event l.0 (seen_at l (k % length engine.locks)) answer
+    IsAnswered expected engine (k % length engine.locks) (k / length engine.locks) moment event l.0 (seen_at l (k % length engine.locks))
+    answer
 
 -- no other event of a session arrives
 abbrev pub judged_own : Shards → ℕ → ℕ → Event → Knows → Answer → Type 0

@@ -61,17 +61,20 @@ abbrev pub MayLock : ℕ → Shard → Type 0
 MayLock limit state = (state.journal ≡ []) × (state.limit ≤ limit)
 
 -- one shard for each part: its lock, the pass of its caller 0, and how many sessions it has
-pub record IsOpenedShard (limit : ℕ) (configs : List SessionConfig) (lock : Option TableId) (pass : Option Held) (size : Option ℕ) : Type 0 where
-  pub id : TableId
-  pub lock_is : lock ≡ Some id
-  pub pass_is : pass ≡ Some (Some (id, opened_pass (opened_base limit configs) 0))
-  pub size_is : size ≡ Some (length configs)
+pub record IsOpenedShard (limit : ℕ) (configs : List SessionConfig) (lock : Option TableId) (pass : Option Held) (size : Option ℕ) : Type 0
+  where
+    pub id : TableId
+    pub lock_is : lock ≡ Some id
+    pub pass_is : pass ≡ Some (Some (id, opened_pass (opened_base limit configs) 0))
+    pub size_is : size ≡ Some (length configs)
 
-pub record AreOpened (limit : ℕ) (parts : List (List SessionConfig)) (locks : List TableId) (passes : List Held) (sizes : List ℕ) : Type 0 where
+pub record AreOpened (limit : ℕ) (parts : List (List SessionConfig)) (locks : List TableId) (passes : List Held)
+    (sizes : List ℕ) : Type 0 where
   pub locks_long : length locks ≡ length parts
   pub passes_long : length passes ≡ length parts
   pub sizes_long : length sizes ≡ length parts
-  pub each : (k : ℕ) (configs : List SessionConfig) → slice_get parts k ≡ Some configs → IsOpenedShard limit configs (slice_get locks k) (slice_get passes k) (slice_get sizes k)
+  pub each : (k : ℕ) (configs : List SessionConfig) → slice_get parts k ≡ Some configs
+      → IsOpenedShard limit configs (slice_get locks k) (slice_get passes k) (slice_get sizes k)
 
 -- a shard that was made of these sessions: its lock, the pass of its caller 0, and how many they are
 abbrev pub IsMade : ℕ → List SessionConfig → TableId × (TableId × OfShard) × ℕ → Type 0

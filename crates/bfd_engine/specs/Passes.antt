@@ -82,7 +82,8 @@ pub record GluesAt (number at : ℕ) (before theirs after rest : List Held) : Ty
 
 -- every pass that was made was joined, on each shard
 abbrev pub EachJoined : Shards → Knows → Type 0
-EachJoined engine pass = (shard n : ℕ) → shard < length engine.locks → has n (made_at pass shard) ≡ true → has n (numbers_of (kept_at pass shard)) ≡ true
+EachJoined engine pass = (shard n : ℕ) → shard < length engine.locks → has n (made_at pass shard) ≡ true
+    → has n (numbers_of (kept_at pass shard)) ≡ true
 
 -- a closed shard: its journal is the one history that the pass has seen; each joined pass has the calls there that are kept of
 -- it, and a number that was never made has none

@@ -9,7 +9,8 @@ use Rattle.bfd_engine.specs.declared.fault.OpenFault.TheVariants.{Build, Memory}
 
 abbrev pub fault_text : EngineFault → List ℕ
 fault_text NoMemory = codes "no memory is left"
-fault_text (Full shard length) = codes "the journal of shard " ++ (decimal shard ++ (codes " has " ++ (decimal length ++ codes " entries, its limit")))
+fault_text (Full shard length) = codes "the journal of shard "
+    ++ (decimal shard ++ (codes " has " ++ (decimal length ++ codes " entries, its limit")))
 fault_text (Spent shard word) = codes "no turn of shard " ++ (decimal shard ++ codes " is left")
 
 abbrev pub open_fault_text : OpenFault → List ℕ

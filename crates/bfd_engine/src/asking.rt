@@ -17,7 +17,7 @@ use std::sync::Wait;
 use std::sync::ledger::Ledger;
 
 impl<W: Timers> Engine<W> {
-    /// An event that every session takes, for the one with this discriminator.
+    /// An event that every session accepts, for the one with this discriminator.
     fn ask<R: Wait, L: Ledger>(
         &self,
         rt: &R,

@@ -1,4 +1,4 @@
-//! Work that is done in parallel, or one after another where that is asked for.
+//! Work that is done in parallel.
 ghost use Rattle.std.specs.Prelude.{◌≡◌, IfOk, Ok, length, map};
 ghost use Rattle.std.specs.Fork.{AcceptsJobs, GivesJobs};
 ghost use Rattle.std.specs.Fork.Halves.{GivesFor};
@@ -8,26 +8,7 @@ use std::alloc::{AllocError, Global};
 use std::thread;
 use std::thread::Threads;
 
-/// Calls both. With `at_once` the first is called in a thread of its own, beside the second, if one is available; without, both are called
-/// in this thread, the first first.
-pub fn both<R: Threads, F: FnOnce() -> A + Send, G: FnOnce() -> B, A: Send, B>(
-    rt: &R,
-    at_once: bool,
-    first: F,
-    second: G,
-) -> (A, B)
-    requires { F.pre first × G.pre second }
-    ensures first { F.post first result.0 }
-    ensures second { G.post second result.1 }
-{
-    if at_once {
-        return thread::join(rt, first, second);
-    }
-    let given = first();
-    (given, second())
-}
-
-/// Calls `f` with each job in turn.
+/// Calls `f` with each job, one after another, in this thread.
 fn in_turn<J: Drop, X: Drop, F: Fn(J) -> X>(
     alloc: Global,
     jobs: Vec<J>,
@@ -76,12 +57,11 @@ fn beside<R: Threads + Sync, J: Send + Drop, X: Send + Drop, F: Fn(J) -> X + Syn
     Ok(given)
 }
 
-/// Calls `f` with each job, and gives what it gave, in their order. With `at_once` all but the last are called in a thread of their own
-/// each, if one is available; without, all are called in this thread, one after another. Fails only when out of memory.
+/// Calls `f` with each job, with all but the last in a thread of its own if one is available, and returns the results in the order of the
+/// jobs. Fails only when out of memory.
 pub fn each<R: Threads + Sync, J: Send + Drop, X: Send + Drop, F: Fn(J) -> X + Sync>(
     rt: &R,
     alloc: Global,
-    at_once: bool,
     jobs: Vec<J>,
     f: &F,
 ) -> Result<Vec<X>, AllocError>
@@ -89,10 +69,7 @@ pub fn each<R: Threads + Sync, J: Send + Drop, X: Send + Drop, F: Fn(J) -> X + S
     ensures long { IfOk result (λ given. length given.items ≡ length jobs.items) }
     ensures each { IfOk result (λ given. GivesJobs F.Fn f.now jobs.items given.items) }
 {
-    if at_once {
-        return beside(rt, alloc, f, jobs);
-    }
-    in_turn(alloc, jobs, f)
+    beside(rt, alloc, f, jobs)
 }
 
 /// All values, where none is a refusal. Fails only when out of memory.

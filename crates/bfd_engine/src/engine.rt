@@ -87,7 +87,7 @@ impl<W: Timers> Engine<W> {
         &self.table
     }
 
-    /// One turn of a shard, with an event that its sessions take, for a caller that knows already whose it is. It may wait.
+    /// One turn of a shard, with an event that its sessions accept, for a caller that knows already whose it is. It may wait.
     ///
     /// Its entry is this event, at a place of the shard, whose number is below `shards()`. `outs` has room for five outputs, or at
     /// a tick for five of each session of the shard.

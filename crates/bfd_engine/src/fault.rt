@@ -9,7 +9,7 @@ use thiserror::Error;
 /// Why a turn added no entry. The shard is as before.
 #[derive(Clone, Copy, Debug, PartialEq, Eq, Error)]
 pub enum EngineFault {
-    /// No memory is left for the entry.
+    /// Out of memory for the entry.
     Memory,
     /// The journal of this shard has this many entries, which is its limit.
     Full(u32, usize),
@@ -22,7 +22,7 @@ pub enum EngineFault {
 pub enum OpenFault {
     /// The rows of the sessions, and then of the reflectors, make no table.
     Build(BuildFault),
-    /// No memory is left.
+    /// Out of memory.
     Memory,
 }
 

@@ -12,7 +12,7 @@ use bfd_shard::ShardState;
 use bfd_wheel::Timers;
 
 impl<W: Timers> Engine<W> {
-    /// Takes another pass of one shard into that of caller 0.
+    /// Joins another pass of one shard into that of caller 0.
     fn join_at(&self, first: &mut EnginePass, other: &mut EnginePass, at: usize)
         requires of { IsOf self.now first.old.1 × IsOf self.now other.old.1 }
         requires there { AllThere first.old.1 }
@@ -31,7 +31,7 @@ impl<W: Timers> Engine<W> {
         first.put(at, pass);
     }
 
-    /// Takes another caller's pass into that of caller 0, which has then seen on each shard the longer of the two lists, of which
+    /// Joins another caller's pass into that of caller 0, which has then seen on each shard the longer of the two lists, of which
     /// each is a beginning, and keeps the other's number and calls. No later entry names that number.
     pub fn join(&self, first: &mut EnginePass, other: EnginePass)
         requires of { IsOf self.now first.old.1 × IsOf self.now other.1 }
@@ -49,7 +49,7 @@ impl<W: Timers> Engine<W> {
         }
     }
 
-    /// The shards, by number, once every pass that was made was joined. `shards` is empty and has room for them. Takes no memory.
+    /// The shards, by number, once every pass that was made was joined. `shards` is empty and has room for them. Allocates no memory.
     pub fn close(self, pass: EnginePass, shards: Vec<ShardState<W>>) -> Vec<ShardState<W>>
         requires of { IsOf self pass.1 }
         requires there { AllThere pass.1 }

@@ -8,7 +8,7 @@ ghost use Rattle.bfd_engine.specs.Engines.{Knows};
 ghost use Rattle.bfd_engine.specs.Turned.{by, entry_of};
 
 /// Laws of turns, and no work: by a turn what a pass has seen of each shard grows at its end; the caller's own calls on the
-/// turn's shard are those that it had and those of the turn, and on the others as before; an entry that the caller brings is a
+/// turn's shard are those that it had and those of the turn, and on the others as before; an entry that the caller adds is a
 /// call of its own; and on no shard the word that was met falls, or the count of turns rises by more than one.
 #[tactic(auto, using(crate::proofs::Growing::grows, crate::proofs::Growing::gains, crate::proofs::Growing::mine_elsewhere, crate::proofs::Growing::own_call, crate::proofs::Growing::words, crate::proofs::Growing::takens))]
 pub fn turn_laws()

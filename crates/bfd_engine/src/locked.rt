@@ -6,14 +6,14 @@ use bfd_turn::Recorded;
 use bfd_wheel::Timers;
 use std::collections::LinkedList;
 
-/// What no turn changes of a shard: the configurations of its sessions, by place, and how many entries its journal takes. It
+/// What no turn changes of a shard: the configurations of its sessions, by place, and how many entries its journal accepts. It
 /// is for clauses alone: no value of it is made.
 pub struct Base {
     pub configs: LinkedList<SessionConfig>,
     pub limit: u64,
 }
 
-/// A shard as the value of a lock: its notes are its journal, and each names the caller that brought the event. It lies in a
+/// A shard as the value of a lock: its notes are its journal, and each names its event's caller. It lies in a
 /// box, since a turn moves the value out of the lock and in again.
 #[derive(Drop)]
 pub struct Locked<W: Timers> {

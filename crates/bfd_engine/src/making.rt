@@ -1,4 +1,4 @@
-//! Making shards, in parallel or one after another.
+//! Making shards: one after another, or in parallel.
 ghost use Rattle.std.specs.Prelude.{◌≡◌, ◌≤◌, ◌<◌, ℕ, IfOk, length, slice_index_or};
 ghost use Rattle.bfd_session.specs.Rows.{AreFit};
 ghost use Rattle.bfd_shard.specs.Dealing.{share};
@@ -42,30 +42,24 @@ fn numbers_below(alloc: Global, count: usize) -> Result<Vec<usize>, AllocError>
     Ok(all)
 }
 
-/// New shards of these sessions by number, with `at_once` all but the last made in a thread of their own each, if one is available, and
-/// else one after another: session k of the list lives in shard k % shards, at place k / shards; all stand at the start, and no journal
-/// takes an entry yet. Fails only when out of memory.
+/// New shards of these sessions by number, all but the last made in a thread of its own if one is available: session k of the list lives in
+/// shard k % shards, at place k / shards; all stand at the start, and no journal accepts an entry yet. Fails only when out of memory.
 pub fn make_shards<W: Timers + Send, R: Threads + Sync>(
     rt: &R,
     alloc: Global,
     configs: &[SessionConfig],
     shards: u32,
-    at_once: bool,
 ) -> Result<Vec<ShardState<W>>, AllocError>
     requires shards { (0 < shards) × (shards ≤ 64) }
     requires few { length configs.now ≤ 65536 }
     requires fit { AreFit configs.now }
     ensures { IfOk result (λ states. AreNewStates shards configs.now states.items) }
 {
-    if !at_once {
-        return make_in_turn(alloc, configs, shards);
-    }
     let count = shards as usize;
     let numbers = numbers_below(alloc, count)?;
     let made = each(
         rt,
         alloc,
-        true,
         numbers,
         &|shard: usize| -> Result<ShardState<W>, AllocError>
             requires { MayOpen configs.now × (shard < count) × (count ≤ 64) }

@@ -52,7 +52,7 @@ type Opened<W> = (
     Vec<usize>,
 );
 
-/// A shard that has seen nothing, behind its lock, with a journal that takes so many entries.
+/// A shard that has seen nothing, behind its lock, with a journal that accepts so many entries.
 fn lock_shard<W: Timers>(
     alloc: Global,
     state: ShardState<W>,
@@ -113,6 +113,7 @@ fn engine_of<W: Timers>(opened: Opened<W>, table: Table, limit: usize) -> (Engin
     ensures limit { result.0.limit ≡ limit }
     ensures pass { IsNewPass result.0 result.1 }
 {
+    // proof: the read brings the invariant
     let _ = table.pool();
     let (locks, passes, sizes) = opened;
     let engine = Engine {
@@ -146,6 +147,7 @@ fn alone<W: Timers>(
     ensures limit { IfOk result (λ r. r.0.limit ≡ limit) }
     ensures pass { IfOk result (λ r. IsNewPass r.0 r.1) }
 {
+    // proof: the read brings the invariant
     let _ = table.pool();
     let states = make_in_turn(alloc, configs.as_slice(), shards)?;
     drop(configs);
@@ -156,9 +158,9 @@ fn alone<W: Timers>(
 impl<W: Timers> Engine<W> {
     /// An engine of 1 to 64 shards, and the pass of caller 0. The sessions and the reflectors each stand in ascending order of
     /// discriminator, and each configuration is within its ranges. Session k of the list lives in shard k % shards, at place
-    /// k / shards, and each shard's journal takes `limit` entries.
+    /// k / shards, and each shard's journal accepts `limit` entries.
     ///
-    /// Build comes exactly where the rows of the sessions, and then of the reflectors, make no table, with what is wrong with them; Memory
+    /// Build comes if and only if the rows of the sessions, and then of the reflectors, make no table, with what is wrong with them; Memory
     /// only when out of memory.
     pub fn open(
         alloc: Global,
@@ -187,16 +189,15 @@ impl<W: Timers> Engine<W> {
 }
 
 impl<W: Timers + Send> Engine<W> {
-    /// An engine of the shards that `make_shards` made of a table's sessions, and the pass of caller 0. Each shard's journal takes
-    /// `limit` entries. With `at_once` each lock is made in a thread of its own if one is available, so that workers of different
-    /// shards don't write side by side; else they are made one after another. Fails only when out of memory.
+    /// An engine of the shards that `make_shards` built from a table's sessions, and the pass of caller 0. Each shard's journal accepts
+    /// `limit` entries. Each lock is made in a thread of its own if one is available, so that workers of different shards don't write
+    /// side by side. Fails only when out of memory.
     pub fn of_shards<R: Threads + Sync>(
         rt: &R,
         alloc: Global,
         table: Table,
         states: Vec<ShardState<W>>,
         limit: usize,
-        at_once: bool,
     ) -> Result<(Engine<W>, EnginePass), AllocError>
         requires shards { (0 < length states.items) × (length states.items ≤ 64) }
         requires new { AreNewStates (length states.items) table.configs states.items }
@@ -209,7 +210,6 @@ impl<W: Timers + Send> Engine<W> {
         let made = each(
             rt,
             alloc,
-            at_once,
             states,
             &|state: ShardState<W>| -> Result<NewShard<W>, AllocError>
                 requires { MayLock limit state }

@@ -34,7 +34,7 @@ impl<W: Timers> Engine<W> {
     }
 
     /// A pass for a further caller, which has seen what caller 0 has seen. It has the next number on every shard: fewer than 64
-    /// were used before. Want of memory is the one refusal; it uses the number up too, and leaves every shard's pass as it was.
+    /// were used before. Fails only when out of memory; that uses the number up too, and leaves every shard's pass as it was.
     pub fn split(&self, alloc: Global, first: &mut EnginePass) -> Result<EnginePass, AllocError>
         requires of { IsOf self.now first.old.1 }
         requires there { AllThere first.old.1 }

@@ -58,7 +58,7 @@ impl<W: Timers> Engine<W> {
     /// Hands an arrival to what it is for. It may wait.
     ///
     /// An arrival that fails a test up to selection is answered `Dropped` with the first that it fails. A packet for a reflector
-    /// is answered by it: its answer is put out as `Sent` in the reflector's name, or it is `Dropped`. Neither takes a turn.
+    /// is answered by it: its answer is emitted as `Sent` in the reflector's name, or it is `Dropped`. Neither takes a turn.
     /// Any other arrival is one turn, whose entry is the session's own event at this moment. A packet of a session is `Dropped` by
     /// the first test that it fails, over the session's variables after settling, and `Handled` where it fails none (RFC 5880
     /// section 6.8.6). `outs` has room for five. At most 36 steps are taken. A turn is refused as `turn_on` says.

@@ -16,7 +16,7 @@ use std::sync::ledger::Ledger;
 /// Why a turn added no entry to a shard's journal. The shard is as before.
 #[derive(Clone, Copy, Debug, PartialEq, Eq)]
 pub enum TurnFault {
-    /// No memory is left for the entry.
+    /// Out of memory for the entry.
     Memory,
     /// The journal has this many entries, which is its limit.
     Full(usize),

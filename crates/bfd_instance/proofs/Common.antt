@@ -1,5 +1,6 @@
 -- Names that proofs of this crate cite, passed on from one place. Declares nothing.
-pub use Rattle.std.proofs.Common.{Err, List, None, Ok, Option, Result, Some, [], add-one, ap, append-nil, append_assoc, arith, drop, false, map, max, refl, rules, set, suc, sym, take, zero, ℕ, ◌*◌, ◌++◌, ◌+◌, ◌<◌, ◌∙◌, ◌∷◌, ◌≡◌, ◌≤◌}
+pub use Rattle.std.proofs.Common.{Err, List, None, Ok, Option, Result, Some, [], add-one, ap, append-nil, append_assoc, arith, drop, false}
+pub use Rattle.std.proofs.Common.{map, max, refl, rules, set, suc, sym, take, zero, ℕ, ◌*◌, ◌++◌, ◌+◌, ◌<◌, ◌∙◌, ◌∷◌, ◌≡◌, ◌≤◌}
 pub use Rattle.bfd_script.specs.declared.line.entries.Line.{Line}
 pub use Rattle.bfd_instance.specs.World.{World, carried_out, happens, outcomes, own_of, reached, reflected, turn_giving, turned, world_of}
 unfoldable pub use Rattle.bfd_instance.specs.World.{own, ticks}

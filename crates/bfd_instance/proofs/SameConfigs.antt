@@ -1,5 +1,7 @@
 -- An event changes no configuration.
-use Rattle.bfd_instance.proofs.Common.{◌≡◌, ℕ, zero, suc, max, List, [], ◌∷◌, refl, Option, None, Some, Result, Ok, Err, Reflector, Running, configs_of, Line, stepped, World, own, own_of, ticks, happens, carried_out, reflected, slice_get, slice_set, Doing, Rests, Reflects, Happens, Passes, doing, Event}
+use Rattle.bfd_instance.proofs.Common.{◌≡◌, ℕ, zero, suc, max, List, [], ◌∷◌, refl, Option, None, Some, Result, Ok, Err, Reflector, Running}
+use Rattle.bfd_instance.proofs.Common.{configs_of, Line, stepped, World, own, own_of, ticks, happens, carried_out, reflected, slice_get}
+use Rattle.bfd_instance.proofs.Common.{slice_set, Doing, Rests, Reflects, Happens, Passes, doing, Event}
 use Rattle.bfd_packet.specs.declared.arrival.Datagram.{Datagram}
 use Rattle.bfd_packet.specs.declared.discard.Test.{Test}
 use Rattle.bfd_sbfd.specs.Reflect.{reflect}

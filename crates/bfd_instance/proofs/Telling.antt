@@ -6,4 +6,5 @@ gave items answer = record { items = items; answer = answer }
 
 pub one_outcome : (line : Line) (left rest : List Line) (before after : World) (items : List Out) (answer : Answer) → left ≡ line ∷ rest
     → turn_giving after items answer ≡ happens line before → outcomes left before ≡ gave items answer ∷ outcomes rest after
-one_outcome line left rest before after items answer split e = ap (λ ls. outcomes ls before) split ∙ ap (λ t. t.outcome ∷ outcomes rest t.world) (sym e)
+one_outcome line left rest before after items answer split e =
+    ap (λ ls. outcomes ls before) split ∙ ap (λ t. t.outcome ∷ outcomes rest t.world) (sym e)

@@ -1,5 +1,6 @@
 -- The world of a script is one group of sessions with a pool beside it.
-use Rattle.bfd_instance.proofs.Common.{◌≡◌, ℕ, List, [], ◌++◌, refl, sym, ap, ◌∙◌, Option, None, Some, Out, Reflector, Running, Answer, Event, World, own, own_of, ticks, turned, world_of, slice_get}
+use Rattle.bfd_instance.proofs.Common.{◌≡◌, ℕ, List, [], ◌++◌, refl, sym, ap, ◌∙◌, Option, None, Some, Out, Reflector, Running, Answer}
+use Rattle.bfd_instance.proofs.Common.{Event, World, own, own_of, ticks, turned, world_of, slice_get}
 use Rattle.bfd_shard.specs.declared.entry.ShardEvent.{ShardEvent}
 use Rattle.bfd_shard.specs.declared.entry.ShardEvent.TheVariants.{Own, Tick}
 use Rattle.bfd_shard.specs.History.{later, own_moved, own_outcome}
@@ -8,10 +9,16 @@ use Rattle.bfd_instance.specs.World.{Turn}
 
 -- an event of the sessions, by the history of a shard
 abbrev pub moved_turn : ShardEvent → World → Turn
-moved_turn event w = record { world = record w { sessions = moved w.last event w.sessions; last = later w.last event }; outcome = outcome_of w.last event w.sessions }
+moved_turn event w = record {
+  world = record w { sessions = moved w.last event w.sessions; last = later w.last event };
+  outcome = outcome_of w.last event w.sessions;
+}
 
 own_by : (o : Option Running) (place moment : ℕ) (event : Event) (w : World)
-    → own_of o place moment event w ≡ record { world = record w { sessions = own_moved o place moment w.last event w.sessions }; outcome = own_outcome o moment w.last event }
+    → own_of o place moment event w ≡ record {
+      world = record w { sessions = own_moved o place moment w.last event w.sessions };
+      outcome = own_outcome o moment w.last event;
+    }
 own_by None place moment event w = refl
 own_by (Some s) place moment event w = refl
 
@@ -24,20 +31,24 @@ unfolding ticks moved outcome_of
 ticks_is t w = refl
 
 -- what a call did to the sessions is a turn of their world
-applied : (event : ShardEvent) (ss ss2 : List Running) (last last2 : ℕ) (none items : List Out) (answer : Answer) (pool : List Reflector) {turn : Turn}
+applied : (event : ShardEvent) (ss ss2 : List Running) (last last2 : ℕ) (none items : List Out) (answer : Answer)
+    (pool : List Reflector) {turn : Turn}
     → turn ≡ moved_turn event (world_of ss pool last) → none ≡ [] → ss2 ≡ moved last event ss → last2 ≡ later last event
-    → items ≡ none ++ (outcome_of last event ss).items → answer ≡ (outcome_of last event ss).answer → turned ss2 pool last2 items answer ≡ turn
+    → items ≡ none ++ (outcome_of last event ss).items → answer ≡ (outcome_of last event ss).answer
+    → turned ss2 pool last2 items answer ≡ turn
 applied event ss ss2 last last2 none items answer pool is empty made early told said =
     let items_are : items ≡ (outcome_of last event ss).items = told ∙ ap (λ xs. xs ++ (outcome_of last event ss).items) empty in
     rw made (rw early (rw items_are (rw said (sym is))))
 
 -- an own event
-pub own_applied : (place moment : ℕ) (event : Event) (ss ss2 : List Running) (last last2 : ℕ) (none items : List Out) (answer : Answer) → none ≡ []
+pub own_applied : (place moment : ℕ) (event : Event) (ss ss2 : List Running) (last last2 : ℕ) (none items : List Out) (answer : Answer)
+    → none ≡ []
     → ss2 ≡ moved last (Own place moment event) ss → last2 ≡ last
     → items ≡ none ++ (outcome_of last (Own place moment event) ss).items → answer ≡ (outcome_of last (Own place moment event) ss).answer
     → (pool : List Reflector) → turned ss2 pool last2 items answer ≡ own place moment event (world_of ss pool last)
 own_applied place moment event ss ss2 last last2 none items answer empty made early told said pool =
-    applied (Own place moment event) ss ss2 last last2 none items answer pool (own_is place moment event (world_of ss pool last)) empty made early told said
+    applied (Own place moment event) ss ss2 last last2 none items answer pool (own_is place moment event (world_of ss pool last)) empty made
+    early told said
 
 -- a tick
 pub ticks_applied : (t : ℕ) (ss ss2 : List Running) (last last2 : ℕ) (none items : List Out) (answer : Answer) → none ≡ []

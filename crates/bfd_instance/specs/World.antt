@@ -1,5 +1,6 @@
 -- What the events of a replay give, one after another.
-use Rattle.std.specs.Prelude.{ℕ, ◌==◌, Bool, is_some, not, max, Option, None, Some, Result, Ok, Err, List, [], ◌∷◌, map, length, sum_by, slice_get, slice_set}
+use Rattle.std.specs.Prelude.{ℕ, ◌==◌, Bool, is_some, not, max, Option, None, Some, Result, Ok, Err, List, [], ◌∷◌, map, length, sum_by}
+use Rattle.std.specs.Prelude.{slice_get, slice_set}
 use Rattle.std.specs.List.{filter, flat_map, insert, list_any, remove}
 use Rattle.bfd_packet.specs.declared.arrival.Datagram.{Datagram}
 use Rattle.bfd_packet.specs.declared.discard.Test.{Test}

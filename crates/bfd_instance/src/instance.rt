@@ -110,7 +110,7 @@ impl<W: Timers> Instance<W> {
         })
     }
 
-    /// One event: what it gave is in the outputs and the answer. Takes no memory.
+    /// One event: what it gave is in the outputs and the answer. Allocates no memory.
     pub fn happen(&mut self, line: Line) -> Answer
         ensures { turn_giving self.new.world self.new.items result ≡ world.happens line self.old.world }
     {
@@ -154,8 +154,8 @@ impl<W: Timers> Instance<W> {
     }
 
     /// One session more, of this configuration, which is within its ranges: it starts at the last tick. Answers its place. Nothing else
-    /// changes, the outputs of the last event neither. A fault says why it isn't added, and then nothing has changed; `Memory` comes only when
-    /// out of memory, and where no other fault is. Takes time linear in the sessions and reflectors.
+    /// changes, the outputs of the last event neither. A fault says why it isn't added, and then nothing has changed; `Memory` comes only
+    /// when out of memory, and where no other fault is. Takes time linear in the sessions and reflectors.
     pub fn add(&mut self, alloc: Global, config: SessionConfig) -> Result<u32, AddFault>
         requires { IsFit config }
         ensures place { IfOk result (λ place. place ≡ place_for (discr_of config) (configs_of self.old.world.sessions)) }
@@ -180,7 +180,7 @@ impl<W: Timers> Instance<W> {
     }
 
     /// The session of this discriminator leaves; false where there is none. Nothing else changes, the outputs of the last event
-    /// neither. Takes no memory, and time linear in the sessions.
+    /// neither. Allocates no memory, and takes time linear in the sessions.
     pub fn remove(&mut self, discr: u32) -> bool
         ensures found { result ≡ world.knows_session discr self.old.world }
         ensures world { self.new.world ≡ world.world_without discr self.old.world }
@@ -211,7 +211,7 @@ impl<W: Timers> Instance<W> {
     }
 
     /// The reflector of this discriminator leaves; false where there is none. Nothing else changes, the outputs of the last event
-    /// neither. Takes no memory.
+    /// neither. Allocates no memory.
     pub fn remove_reflector(&mut self, discr: u32) -> bool
         ensures found { result ≡ world.knows_reflector discr self.old.world }
         ensures world { self.new.world ≡ world.world_without_reflector discr self.old.world }
@@ -233,6 +233,7 @@ impl<W: Timers> Instance<W> {
         ensures value { result ≡ place_in discr (configs_of self.now.world.sessions) }
         ensures within { IfSome result (λ place. place < length self.now.world.sessions) }
     {
+        // proof: the read brings the invariant
         let _ = &self.sessions;
         self.table.place_of(discr)
     }
@@ -256,6 +257,7 @@ impl<W: Timers> Instance<W> {
         ensures value { result.now ≡ self.now.world.sessions }
         ensures ascends { Ascends (configs_of result.now) }
     {
+        // proof: the read brings the invariant
         let _ = &self.table;
         self.sessions.sessions()
     }

@@ -4,7 +4,7 @@ ghost use Rattle.std.specs.Prelude.{◌≡◌, ◌≤◌, ◌++◌, OnOk, length
 use bfd_rules::{Out, Outs};
 use std::alloc::{AllocError, Global};
 
-/// Moves outputs behind those that are there.
+/// Moves outputs behind those that are present.
 fn move_all(list: Vec<Out>, outs: &mut Outs)
     requires { length list.items ≤ outs.old.spare }
     ensures items { outs.new.items ≡ outs.old.items ++ list.items }
@@ -15,7 +15,7 @@ fn move_all(list: Vec<Out>, outs: &mut Outs)
     }
 }
 
-/// Makes room for so many outputs at least, and keeps those that are there. It makes half as much again, so that sessions that are
+/// Makes room for so many outputs at least, and keeps those that are present. It makes half as much again, so that sessions that are
 /// added one by one move the outputs seldom. Fails only when out of memory, and then nothing has changed.
 pub(crate) fn make_room(alloc: Global, outs: &mut Outs, room: usize) -> Result<(), AllocError>
     requires { room ≤ 1000000 }

@@ -11,6 +11,7 @@ ghost use Rattle.bfd_sbfd.specs.declared.reflecting.Reflector.{Reflector};
 ghost use Rattle.bfd_script.specs.Doing.{arriving, asking};
 ghost use Rattle.bfd_instance.specs.World.{turned};
 ghost use Rattle.bfd_instance.specs.World as world;
+ghost use Rattle.bfd_num.specs.Counting.{IsBlankOf};
 
 use bfd_demux::Target;
 use bfd_num::{Moment, Steps, Tick};
@@ -34,9 +35,7 @@ pub fn pass<W: Timers, L: Ledger>(
 ) -> Answer
     requires room { 5 * length sessions.old.sessions ≤ outs.old.spare }
     requires empty { outs.old.items ≡ [] }
-    requires name { blank.name ≡ L.name }
-    requires parts { blank.parts ≡ L.parts }
-    requires some { 0 < blank.parts }
+    requires blank { IsBlankOf L.name L.parts blank.name blank.parts }
     ensures turn { (pool : List Reflector) → turned sessions.new.sessions pool sessions.new.last outs.new.items result
         ≡ world.ticks t (world.world_of sessions.old.sessions pool sessions.old.last) }
     ensures room { outs.new.room ≡ outs.old.room }
@@ -57,9 +56,7 @@ fn own<W: Timers, L: Ledger>(
     requires taken { IsTaken (configs_of sessions.old.sessions) place event.now }
     requires room { 5 ≤ outs.old.spare }
     requires empty { outs.old.items ≡ [] }
-    requires name { blank.name ≡ L.name }
-    requires parts { blank.parts ≡ L.parts }
-    requires some { 0 < blank.parts }
+    requires blank { IsBlankOf L.name L.parts blank.name blank.parts }
     ensures turn { (pool : List Reflector) → turned sessions.new.sessions pool sessions.new.last outs.new.items result
         ≡ world.own place moment event.now (world.world_of sessions.old.sessions pool sessions.old.last) }
     ensures room { outs.new.room ≡ outs.old.room }
@@ -71,9 +68,7 @@ fn own<W: Timers, L: Ledger>(
 #[tactic(auto, using(bfd_session::proofs::Reach::reaches))]
 fn screened<L: Ledger>(table: &Table, arrival: &Arrival, blank: Blank) -> Result<Target, Test>
     requires ascends { Ascends table.now.configs }
-    requires name { blank.name ≡ L.name }
-    requires parts { blank.parts ≡ L.parts }
-    requires some { 0 < blank.parts }
+    requires blank { IsBlankOf L.name L.parts blank.name blank.parts }
     ensures coming { MatchResult result
         (λ target. comes_to (table_of table.now.configs table.now.pool) arrival.now ≡ coming_to (Some target) arrival.now)
         (λ test. comes_to (table_of table.now.configs table.now.pool) arrival.now ≡ Discarded test) }

@@ -7,4 +7,8 @@ use borrow.Rule.Slice.PartMut.{put_mid}
 pub tail_of : {a : ℕ} (xs ys : List ℕ) → a ≤ length xs → length ys ≡ length xs - a → drop a (put_mid a (length xs - a) xs ys) ≡ ys
 tail_of {a} xs ys inside len =
     let front : a ≡ length (take a xs) = simp length-take (omega arith) in
-    cc (drop-append_seam (take a xs) (ys ++ drop (length xs - a) (drop a xs)), (drop_all (length xs - a) (drop a xs) (simp length-drop (omega arith))), append-nil ys)
+    cc (
+      drop-append_seam (take a xs) (ys ++ drop (length xs - a) (drop a xs)),
+      (drop_all (length xs - a) (drop a xs) (simp length-drop (omega arith))),
+      append-nil ys,
+    )

@@ -1,7 +1,7 @@
 //! Scans of plain lists of due ticks, eight numbers at a time: which places have come, and which due tick is least.
 //!
 //! It stands on bfd_num. It promises the ascending places and the minimum that a plain loop gives, at every length.
-//! No scan takes memory: `Ids` takes its room when it is made.
+//! No scan allocates memory: `Ids` allocates its room when it is made.
 #![tactic(auto)]
 
 mod block;

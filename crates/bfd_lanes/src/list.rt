@@ -1,4 +1,4 @@
-//! A list of ids that takes its memory once.
+//! A list of ids that allocates its memory once.
 ghost use Rattle.std.specs.Prelude.{◌≡◌, ◌+◌, ◌-◌, ◌*◌, ◌<◌, ◌≤◌, List, [], ◌∷◌, ◌++◌, length, take, drop, IfOk, IsPermutation};
 ghost use Rattle.std.specs.List.Sorted.{IsNonDecreasing};
 ghost use Rattle.bfd_lanes.specs.Held.{HeldIds, room_of};
@@ -33,7 +33,7 @@ impl Ids {
         Ok(Ids { list, room })
     }
 
-    /// Lets all ids go, so that the whole room is spare.
+    /// Drops all ids, so that the whole room is spare.
     pub fn clear(&mut self)
         ensures { self.new ≡ record { items = []; spare = room_of self.old } }
     {
@@ -56,7 +56,7 @@ impl Ids {
         self.list.push_reserved(id);
     }
 
-    /// Orders the items from place `from` on, ascending, and leaves the others. It takes no memory.
+    /// Orders the items from place `from` on, ascending, and leaves the others. It allocates no memory.
     pub fn sort_from(&mut self, from: usize)
         requires { from ≤ length self.old.items }
         ensures front { take from self.new.items ≡ take from self.old.items }

@@ -7,7 +7,7 @@ use crate::NEVER;
 use crate::block::LANES;
 use std::simd::prelude::*;
 
-/// The least due tick, eight numbers at a time: None exactly where every number is `NEVER`.
+/// The least due tick, eight numbers at a time: None if and only if every number is `NEVER`.
 #[tactic(auto, using(crate::proofs::Lower::least_is))]
 pub fn least_due(dues: &[u64]) -> Option<u64>
     ensures { result ≡ least (map due_of dues.now) }

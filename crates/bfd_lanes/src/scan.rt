@@ -22,7 +22,7 @@ pub fn due_ids(dues: &[u64], t: u64, out: &mut Ids)
     scan(dues, LANES * blocks, dues.len(), t, out);
 }
 
-/// Appends the places of one block that have come, and skips the block at once where none has.
+/// Appends the places of one block that have come, and skips the whole block where none has.
 #[tactic(auto, using(crate::proofs::Scanned::none_in_block))]
 fn scan_block(dues: &[u64], at: usize, t: u64, out: &mut Ids)
     requires block { at + 8 ≤ length dues.now }

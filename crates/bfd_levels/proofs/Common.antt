@@ -1,5 +1,7 @@
 -- Names that proofs of this crate cite, passed on from one place. Declares nothing.
-pub use Rattle.std.proofs.Common.{Bool, List, [], add-one, ap, arith, cond, drop, false, get_or, if◌then◌else◌, inl, inr, length, map, max, nat_eq, nat_le, nat_lt, refl, replicate, slice_index, slice_set, subst, suc, sym, true, zero, ℕ, ◌%◌, ◌*◌, ◌+◌, ◌-◌, ◌/◌, ◌<◌, ◌^◌, ◌∙◌, ◌∷◌, ◌≡◌, ◌≢◌, ◌≤◌, ◌⊎◌}
+pub use Rattle.std.proofs.Common.{Bool, List, [], add-one, ap, arith, cond, drop, false, get_or, if◌then◌else◌, inl, inr, length, map, max}
+pub use Rattle.std.proofs.Common.{nat_eq, nat_le, nat_lt, refl, replicate, slice_index, slice_set, subst, suc, sym, true, zero, ℕ, ◌%◌, ◌*◌}
+pub use Rattle.std.proofs.Common.{◌+◌, ◌-◌, ◌/◌, ◌<◌, ◌^◌, ◌∙◌, ◌∷◌, ◌≡◌, ◌≢◌, ◌≤◌, ◌⊎◌}
 pub use Rattle.std.proofs.lemmas.Bool.{cases_eq, cases_lt, eqb-false, eqb-true, le-ltb, leb-true, lt-ltb}
 pub use Rattle.std.proofs.lemmas.Bool.Decides.{nat_tests}
 pub use Rattle.std.proofs.lemmas.List.{get_or-set_other, get_or-set_same, length-map, length-set, set-set}
@@ -14,7 +16,8 @@ unfoldable pub use Rattle.bfd_levels.specs.Moves.{GoesDown}
 pub use Rattle.bfd_levels.specs.Rings.{IsPlaced}
 unfoldable pub use Rattle.bfd_levels.specs.Rings.{head_for}
 pub use Rattle.bfd_wheel.proofs.Order.{appended_from, ordered, times_come}
-pub use Rattle.bfd_wheel.proofs.TakenIds.{above_all, bit_other, bit_same, ids_first, ids_rest, left_is, none_waits, same_or_gone_on, took_id, took_none, took_then, waiting-le, waiting-set, waiting_one}
+pub use Rattle.bfd_wheel.proofs.TakenIds.{above_all, bit_other, bit_same, ids_first, ids_rest, left_is, none_waits, same_or_gone_on}
+pub use Rattle.bfd_wheel.proofs.TakenIds.{took_id, took_none, took_then, waiting-le, waiting-set, waiting_one}
 pub use Rattle.bfd_wheel.proofs.Views.{back, due_of_below, none_yet, set_view}
 pub use Rattle.bfd_wheel.specs.Rings.{IsOn, IsRing, Links, Unlinks}
 pub use Rattle.bfd_wheel.specs.Taken.{Took, bit, counts_due, times, waiting}

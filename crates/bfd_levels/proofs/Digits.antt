@@ -1,5 +1,7 @@
 -- Heights by their digits, the lists that they name, and what a tick of the clock moves.
-use Rattle.bfd_levels.proofs.Common.{◌≡◌, ◌≢◌, ◌⊎◌, inl, inr, ℕ, zero, suc, ◌+◌, ◌-◌, ◌*◌, ◌/◌, ◌%◌, ◌^◌, ◌<◌, ◌≤◌, Bool, true, false, cond, refl, sym, ◌∙◌, ap, arith, nat_le, nat_lt, nat_eq, if◌then◌else◌, nat_tests, eqb-true, eqb-false, leb-true, cases_eq, cases_lt, bit, bit_same, bit_other, height, slot, place, level_of, reach, GoesDown}
+use Rattle.bfd_levels.proofs.Common.{◌≡◌, ◌≢◌, ◌⊎◌, inl, inr, ℕ, zero, suc, ◌+◌, ◌-◌, ◌*◌, ◌/◌, ◌%◌, ◌^◌, ◌<◌, ◌≤◌, Bool, true, false, cond}
+use Rattle.bfd_levels.proofs.Common.{refl, sym, ◌∙◌, ap, arith, nat_le, nat_lt, nat_eq, if◌then◌else◌, nat_tests, eqb-true, eqb-false}
+use Rattle.bfd_levels.proofs.Common.{leb-true, cases_eq, cases_lt, bit, bit_same, bit_other, height, slot, place, level_of, reach, GoesDown}
 
 -- ---- heights
 
@@ -15,7 +17,8 @@ pub record HasHeight (due now h : ℕ) : Type 0 where
   pub other3 : 3 ≤ h → due / 16777216 ≢ now / 16777216
   pub other4 : 4 ≤ h → due / 4294967296 ≢ now / 4294967296
 
-by_tests : {due now : ℕ} → now < due → (a b c d e : Bool) → nat_le due now ≡ a → nat_eq (due / 256) (now / 256) ≡ b → nat_eq (due / 65536) (now / 65536) ≡ c
+by_tests : {due now : ℕ} → now < due → (a b c d e : Bool) → nat_le due now ≡ a → nat_eq (due / 256) (now / 256) ≡ b
+    → nat_eq (due / 65536) (now / 65536) ≡ c
     → nat_eq (due / 16777216) (now / 16777216) ≡ d → nat_eq (due / 4294967296) (now / 4294967296) ≡ e
     → HasHeight due now (if a then 0 else if b then 0 else if c then 1 else if d then 2 else if e then 3 else 4)
 by_tests {due} {now} ahead true b c d e ha hb hc hd he = absurd (omega (arith, leb-true due now ha))
@@ -91,7 +94,9 @@ has_height ahead = by_tests ahead _ _ _ _ _ refl refl refl refl refl
 
 -- what has come has height 0
 height_come : {due now : ℕ} → due ≤ now → height due now ≡ 0
-height_come {due} {now} h = ap (λ b. if b then 0 else if nat_eq (due / 256) (now / 256) then 0 else if nat_eq (due / 65536) (now / 65536) then 1 else if nat_eq (due / 16777216) (now / 16777216) then 2 else if nat_eq (due / 4294967296) (now / 4294967296) then 3 else 4) (let test : nat_le due now ≡ true = grind (arith, nat_tests) in test)
+height_come {due} {now} h = ap (λ b. if b then 0 else if nat_eq (due / 256) (now / 256) then 0 else if nat_eq (due / 65536)
+    (now / 65536) then 1 else if nat_eq (due / 16777216) (now / 16777216) then 2 else if nat_eq (due / 4294967296) (now / 4294967296) then
+    3 else 4) (let test : nat_le due now ≡ true = grind (arith, nat_tests) in test)
 
 pub height-le : (due now : ℕ) → height due now ≤ 4
 height-le due now = elim (cases_lt now due) [
@@ -101,10 +106,23 @@ height-le due now = elim (cases_lt now due) [
 
 -- no height grows as time goes on
 later_by : {due now t : ℕ} (h : ℕ) {k : ℕ} → HasHeight due now h → HasHeight due t k → now ≤ t → t < due → k ≤ h
-later_by zero {k} a b later ahead = elim (cases_lt 0 k) [ inl more ↦ absurd (b.other1 (omega arith) (let e = a.same1 (omega arith) in omega arith)) | inr le ↦ le ]
-later_by (suc zero) {k} a b later ahead = elim (cases_lt 1 k) [ inl more ↦ absurd (b.other2 (omega arith) (let e = a.same2 (omega arith) in omega arith)) | inr le ↦ le ]
-later_by (suc (suc zero)) {k} a b later ahead = elim (cases_lt 2 k) [ inl more ↦ absurd (b.other3 (omega arith) (let e = a.same3 (omega arith) in omega arith)) | inr le ↦ le ]
-later_by (suc (suc (suc zero))) {k} a b later ahead = elim (cases_lt 3 k) [ inl more ↦ absurd (b.other4 (omega arith) (let e = a.same4 (omega arith) in omega arith)) | inr le ↦ le ]
+later_by zero {k} a b later ahead = elim (cases_lt 0 k) [
+  | inl more ↦ absurd
+      (b.other1 (omega arith) (let e = a.same1 (omega arith) in omega arith))
+  | inr le ↦ le
+]
+later_by (suc zero) {k} a b later ahead = elim (cases_lt 1 k) [
+  | inl more ↦ absurd
+      (b.other2 (omega arith) (let e = a.same2 (omega arith) in omega arith))
+  | inr le ↦ le
+]
+later_by (suc (suc zero)) {k} a b later ahead = elim (cases_lt 2 k) [
+  | inl more ↦ absurd
+      (b.other3 (omega arith) (let e = a.same3 (omega arith) in omega arith))
+  | inr le ↦ le
+]
+later_by (suc (suc (suc zero))) {k} a b later ahead =
+    elim (cases_lt 3 k) [ inl more ↦ absurd (b.other4 (omega arith) (let e = a.same4 (omega arith) in omega arith)) | inr le ↦ le ]
 later_by (suc (suc (suc (suc h)))) a b later ahead = omega arith
 
 pub height_later : (due now t : ℕ) → now ≤ t → t < due → height due t ≤ height due now
@@ -112,7 +130,8 @@ height_later due now t later ahead = later_by _ (has_height {due = due} {now = n
 
 -- ---- slots and places
 
-slot_by : (n x : ℕ) {level : ℕ} (b : Bool) → level ≤ 5 → nat_lt level 4 ≡ b → (n ≤ (if b then n + (256 * level + x % 256) else n + (1020 + level))) × ((if b then n + (256 * level + x % 256) else n + (1020 + level)) < n + 1026)
+slot_by : (n x : ℕ) {level : ℕ} (b : Bool) → level ≤ 5 → nat_lt level 4 ≡ b → (n ≤ (if b then n + (256 * level + x % 256) else n +
+    (1020 + level))) × ((if b then n + (256 * level + x % 256) else n + (1020 + level)) < n + 1026)
 slot_by n x {level} true few test = (omega arith, (let low : level < 4 = grind (arith, nat_tests) in omega arith))
 slot_by n x false few test = (omega arith, omega arith)
 
@@ -128,9 +147,11 @@ slot_same n tick due level e = cc
 
 level_at : (n head : ℕ) {level : ℕ} → head ≢ n + 1025 → (head - n) / 256 ≡ level → level_of n head ≡ level
 unfolding level_of
-level_at n head ne e = ap (λ b. cond b 0 ((head - n) / 256)) (let test : nat_eq head (n + 1025) ≡ false = grind (arith, nat_tests) in test) ∙ e
+level_at n head ne e = ap (λ b. cond b 0 ((head - n) / 256)) (let test : nat_eq head (n + 1025) ≡ false = grind (arith, nat_tests) in test)
+    ∙ e
 
-level_by : (n x : ℕ) {level : ℕ} (b : Bool) → level ≤ 4 → nat_lt level 4 ≡ b → level_of n (if b then n + (256 * level + x % 256) else n + (1020 + level)) ≡ level
+level_by : (n x : ℕ) {level : ℕ} (b : Bool) → level ≤ 4 → nat_lt level 4 ≡ b
+    → level_of n (if b then n + (256 * level + x % 256) else n + (1020 + level)) ≡ level
 level_by n x {level} true few test =
     let low : level < 4 = grind (arith, nat_tests) in
     level_at n (n + (256 * level + x % 256)) (λ e. absurd (omega arith)) (omega arith)
@@ -145,7 +166,8 @@ level_slot n tick {level} few = level_by n (tick / 2 ^ (8 * level)) _ few refl
 
 level_overdue : (n tick : ℕ) → level_of n (slot n tick 5) ≡ 0
 unfolding slot level_of
-level_overdue n tick = ap (λ b. cond b 0 ((n + 1025 - n) / 256)) (let test : nat_eq (n + 1025) (n + 1025) ≡ true = grind (arith, nat_tests) in test)
+level_overdue n tick = ap (λ b. cond b 0 ((n + 1025 - n) / 256))
+    (let test : nat_eq (n + 1025) (n + 1025) ≡ true = grind (arith, nat_tests) in test)
 
 pub overdue_same : (n tick due : ℕ) → slot n tick 5 ≡ slot n due 5
 unfolding slot
@@ -153,17 +175,21 @@ overdue_same n tick due = refl
 
 pub place_come : (n now due : ℕ) → due ≤ now → place n now due ≡ slot n due 5
 unfolding place
-place_come n now due h = ap (λ b. if b then slot n due 5 else slot n due (height due now)) (let test : nat_le due now ≡ true = grind (arith, nat_tests) in test)
+place_come n now due h = ap (λ b. if b then slot n due 5 else slot n due (height due now))
+    (let test : nat_le due now ≡ true = grind (arith, nat_tests) in test)
 
 pub place_ahead : (n : ℕ) {now due : ℕ} → now < due → place n now due ≡ slot n due (height due now)
 unfolding place
-place_ahead n {now} {due} h = ap (λ b. if b then slot n due 5 else slot n due (height due now)) (let test : nat_le due now ≡ false = grind (arith, nat_tests) in test)
+place_ahead n {now} {due} h = ap (λ b. if b then slot n due 5 else slot n due (height due now))
+    (let test : nat_le due now ≡ false = grind (arith, nat_tests) in test)
 
 -- a place is a head
 pub place_head : (n now due : ℕ) → (n ≤ place n now due) × (place n now due < n + 1026)
 place_head n now due = elim (cases_lt now due) [
-  | inl ahead ↦ (let e = place_ahead n ahead in let h = slot_head n due (height due now) (omega (arith, height-le due now)) in let a = h.0 in let b = h.1 in (omega arith, omega arith))
-  | inr come ↦ (let e = place_come n now due come in let h = slot_head n due 5 (omega arith) in let a = h.0 in let b = h.1 in (omega arith, omega arith))
+  | inl ahead ↦ (let e = place_ahead n ahead in let h = slot_head n due (height due now) (omega (arith, height-le due now)) in let a =
+      h.0 in let b = h.1 in (omega arith, omega arith))
+  | inr come ↦ (let e = place_come n now due come in let h = slot_head n due 5 (omega arith) in let a = h.0 in let b = h.1 in
+      (omega arith, omega arith))
 ]
 
 -- the level of a place is the height
@@ -177,11 +203,13 @@ level_place n now due = elim (cases_lt now due) [
 pub level_later : (n : ℕ) {now t due : ℕ} → now ≤ t → t < due → level_of n (place n t due) ≤ level_of n (place n now due)
 level_later n {now} {t} {due} later ahead = omega (arith, level_place n t due, level_place n now due, height_later due now t later ahead)
 
-same_place : (n : ℕ) {before : ℕ} (tick : ℕ) {due : ℕ} → before < due → tick < due → height due before ≡ height due tick → place n before due ≡ place n tick due
+same_place : (n : ℕ) {before : ℕ} (tick : ℕ) {due : ℕ} → before < due → tick < due → height due before ≡ height due tick
+    → place n before due ≡ place n tick due
 same_place n tick was ahead e = cc (place_ahead n was, place_ahead n ahead)
 
 -- what a tick moves to a lower level, or leaves: all that stands on a list that it reaches
-pub goes_down : (n before tick due level : ℕ) → before ≤ tick → tick < due → level ≤ 4 → place n before due ≡ slot n tick level → GoesDown n tick due (slot n tick level)
+pub goes_down : (n before tick due level : ℕ) → before ≤ tick → tick < due → level ≤ 4 → place n before due ≡ slot n tick level
+    → GoesDown n tick due (slot n tick level)
 unfolding GoesDown
 goes_down n before tick due level later ahead few at =
     let was = level_place n before due in
@@ -218,7 +246,13 @@ reach_4 : (tick : ℕ) → tick % 16777216 ≡ 0 → 4 ≤ reach tick
 reach_4 tick e = omega (arith, bit_one (tick % 256) (omega arith), bit_one (tick % 65536) (omega arith), bit_one _ e)
 
 reach_5 : (tick : ℕ) → tick % 4294967296 ≡ 0 → 5 ≤ reach tick
-reach_5 tick e = omega (arith, bit_one (tick % 256) (omega arith), bit_one (tick % 65536) (omega arith), bit_one (tick % 16777216) (omega arith), bit_one _ e)
+reach_5 tick e = omega (
+  arith,
+  bit_one (tick % 256) (omega arith),
+  bit_one (tick % 65536) (omega arith),
+  bit_one (tick % 16777216) (omega arith),
+  bit_one _ e,
+)
 
 pub reach-le : (tick : ℕ) → reach tick ≤ 5
 reach-le tick = omega (arith, bit-le (tick % 256), bit-le (tick % 65536), bit-le (tick % 16777216), bit-le (tick % 4294967296))
@@ -231,7 +265,8 @@ pub record Hit (n before tick due : ℕ) : Type 0 where
   pub few : level < reach tick
   pub at : place n before due ≡ slot n tick level
 
-hit_or_same : (n : ℕ) {before tick due : ℕ} (h : ℕ) → tick ≡ before + 1 → before < due → HasHeight due before h → height due before ≡ h → (place n before due ≡ place n tick due) ⊎ Hit n before tick due
+hit_or_same : (n : ℕ) {before tick due : ℕ} (h : ℕ) → tick ≡ before + 1 → before < due → HasHeight due before h → height due before ≡ h
+    → (place n before due ≡ place n tick due) ⊎ Hit n before tick due
 hit_or_same n {tick} {due} zero next was a is = elim (cases_eq due tick) [
   | inl q ↦ inr (record { level = 0; few = omega (arith, bit-le (tick % 256)); at = cc (place_ahead n was) })
   | inr ne ↦ inl (
@@ -239,30 +274,49 @@ hit_or_same n {tick} {due} zero next was a is = elim (cases_eq due tick) [
       same_place n tick was (omega arith) (omega arith))
 ] where
   height_le_0 : (k : ℕ) → HasHeight due tick k → k ≤ 0
-  height_le_0 k b = elim (cases_lt 0 k) [ inl more ↦ absurd (b.other1 (omega arith) (let e = a.same1 (omega arith) in omega arith)) | inr le ↦ le ]
+  height_le_0 k b = elim (cases_lt 0 k) [
+    | inl more ↦ absurd (b.other1 (omega arith) (let e = a.same1 (omega arith) in omega arith))
+    | inr le ↦ le
+  ]
 hit_or_same n {before} {tick} {due} (suc zero) next was a is = elim (cases_eq (due / 256) (tick / 256)) [
-  | inl q ↦ inr (record { level = 1; few = omega (arith, reach_2 tick (omega (arith, a.other1 (omega arith)))); at = cc (place_ahead n was, slot_same n due tick 1 q) })
+  | inl q ↦ inr (record {
+    level = 1;
+    few = omega (arith, reach_2 tick (omega (arith, a.other1 (omega arith))));
+    at = cc (place_ahead n was, slot_same n due tick 1 q);
+  })
   | inr ne ↦ inl (
       let le = height_later due before tick (omega arith) (omega arith) in
       same_place n tick was (omega arith)
       (elim (cases_lt (height due tick) 1) [ inl less ↦ absurd (ne ((has_height (omega arith)).same1 less)) | inr more ↦ omega arith ]))
 ]
 hit_or_same n {before} {tick} {due} (suc (suc zero)) next was a is = elim (cases_eq (due / 65536) (tick / 65536)) [
-  | inl q ↦ inr (record { level = 2; few = omega (arith, reach_3 tick (omega (arith, a.other2 (omega arith)))); at = cc (place_ahead n was, slot_same n due tick 2 q) })
+  | inl q ↦ inr (record {
+    level = 2;
+    few = omega (arith, reach_3 tick (omega (arith, a.other2 (omega arith))));
+    at = cc (place_ahead n was, slot_same n due tick 2 q);
+  })
   | inr ne ↦ inl (
       let le = height_later due before tick (omega arith) (omega arith) in
       same_place n tick was (omega arith)
       (elim (cases_lt (height due tick) 2) [ inl less ↦ absurd (ne ((has_height (omega arith)).same2 less)) | inr more ↦ omega arith ]))
 ]
 hit_or_same n {before} {tick} {due} (suc (suc (suc zero))) next was a is = elim (cases_eq (due / 16777216) (tick / 16777216)) [
-  | inl q ↦ inr (record { level = 3; few = omega (arith, reach_4 tick (omega (arith, a.other3 (omega arith)))); at = cc (place_ahead n was, slot_same n due tick 3 q) })
+  | inl q ↦ inr (record {
+    level = 3;
+    few = omega (arith, reach_4 tick (omega (arith, a.other3 (omega arith))));
+    at = cc (place_ahead n was, slot_same n due tick 3 q);
+  })
   | inr ne ↦ inl (
       let le = height_later due before tick (omega arith) (omega arith) in
       same_place n tick was (omega arith)
       (elim (cases_lt (height due tick) 3) [ inl less ↦ absurd (ne ((has_height (omega arith)).same3 less)) | inr more ↦ omega arith ]))
 ]
 hit_or_same n {before} {tick} {due} (suc (suc (suc (suc zero)))) next was a is = elim (cases_eq (due / 4294967296) (tick / 4294967296)) [
-  | inl q ↦ inr (record { level = 4; few = omega (arith, reach_5 tick (omega (arith, a.other4 (omega arith)))); at = cc (place_ahead n was, slot_same n due tick 4 q) })
+  | inl q ↦ inr (record {
+    level = 4;
+    few = omega (arith, reach_5 tick (omega (arith, a.other4 (omega arith))));
+    at = cc (place_ahead n was, slot_same n due tick 4 q);
+  })
   | inr ne ↦ inl (
       let le = height_later due before tick (omega arith) (omega arith) in
       same_place n tick was (omega arith)
@@ -271,7 +325,8 @@ hit_or_same n {before} {tick} {due} (suc (suc (suc (suc zero)))) next was a is =
 hit_or_same n (suc (suc (suc (suc (suc h))))) next was a is = absurd (omega arith)
 
 -- a due tick stands where it did, or on a list that the tick reaches
-pub moved_or_same : (n before : ℕ) {tick : ℕ} (due : ℕ) → tick ≡ before + 1 → (place n before due ≡ place n tick due) ⊎ Hit n before tick due
+pub moved_or_same : (n before : ℕ) {tick : ℕ} (due : ℕ) → tick ≡ before + 1
+    → (place n before due ≡ place n tick due) ⊎ Hit n before tick due
 moved_or_same n before {tick} due next = elim (cases_lt before due) [
   | inl was ↦ hit_or_same n _ next was (has_height was) refl
   | inr come ↦ inl (place_come n _ due come ∙ sym (place_come n tick due (omega arith)))

@@ -1,5 +1,6 @@
 -- The lowest of a list of numbers after one was written, and after all that had come was taken.
-use Rattle.bfd_levels.proofs.Common.{◌≡◌, ◌≢◌, inl, inr, ℕ, zero, suc, ◌<◌, ◌≤◌, List, [], ◌∷◌, map, length, refl, sym, ◌∙◌, ap, arith, cases_lt, slice_index, slice_set, None, Some, due_of, without, never}
+use Rattle.bfd_levels.proofs.Common.{◌≡◌, ◌≢◌, inl, inr, ℕ, zero, suc, ◌<◌, ◌≤◌, List, [], ◌∷◌, map, length, refl, sym, ◌∙◌, ap, arith}
+use Rattle.bfd_levels.proofs.Common.{cases_lt, slice_index, slice_set, None, Some, due_of, without, never}
 use Rattle.std.specs.Prelude.{min}
 use Rattle.std.proofs.Common.{cond, replicate}
 use Rattle.std.proofs.lemmas.Bool.{lt-leb, le-leb}
@@ -33,7 +34,8 @@ lowest_other (d ∷ ds) (suc i) x ne inside = elim (cases_lt (lowest ds) d) [
 ]
 
 -- where a later one comes in place of one that wasn't the lowest, the lowest stays
-pub other_written : (ds : List ℕ) (i x : ℕ) → i < length ds → lowest ds < x → slice_index ds i ≢ lowest ds → lowest (slice_set ds i x) ≡ lowest ds
+pub other_written : (ds : List ℕ) (i x : ℕ) → i < length ds → lowest ds < x → slice_index ds i ≢ lowest ds
+    → lowest (slice_set ds i x) ≡ lowest ds
 other_written ds i x inside later ne = omega (arith, lowest_least ds i x, lowest_other ds i x ne inside)
 
 -- ---- what had come was taken
@@ -66,7 +68,8 @@ kept : (t d : ℕ) → t < never → t < d → without t (due_of d) ≡ due_of d
 kept t d below above = cc (come_of t d below, lt-leb d t above)
 
 -- nothing was
-pub none_taken : (t : ℕ) (ds es : List ℕ) → t < never → t < lowest ds → map due_of es ≡ map (without t) (map due_of ds) → lowest es ≡ lowest ds
+pub none_taken : (t : ℕ) (ds es : List ℕ) → t < never → t < lowest ds → map due_of es ≡ map (without t) (map due_of ds)
+    → lowest es ≡ lowest ds
 none_taken t [] [] below later same = refl
 none_taken t [] (e ∷ es) below later same = absurd (cc)
 none_taken t (d ∷ ds) [] below later same = absurd (cc)

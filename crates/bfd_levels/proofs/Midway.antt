@@ -1,5 +1,6 @@
 -- Where a due tick stands while the clock goes from one tick to the next, list by list.
-use Rattle.bfd_levels.proofs.Common.{◌≡◌, ◌≢◌, ◌⊎◌, inl, inr, ℕ, zero, suc, ◌+◌, ◌<◌, ◌≤◌, true, false, cond, refl, sym, ◌∙◌, ap, arith, add-one, nat_eq, nat_tests, cases_eq, slot, place, reach, midway, GoesDown}
+use Rattle.bfd_levels.proofs.Common.{◌≡◌, ◌≢◌, ◌⊎◌, inl, inr, ℕ, zero, suc, ◌+◌, ◌<◌, ◌≤◌, true, false, cond, refl, sym, ◌∙◌, ap, arith}
+use Rattle.bfd_levels.proofs.Common.{add-one, nat_eq, nat_tests, cases_eq, slot, place, reach, midway, GoesDown}
 use Rattle.bfd_levels.proofs.Digits.{goes_down, moved_or_same, reach-le}
 
 chosen : {a b : ℕ} (x y : ℕ) → a ≡ b → cond (nat_eq a b) x y ≡ x
@@ -12,15 +13,18 @@ hit_suc : (n before tick k due : ℕ) → midway n before tick k due ≡ slot n 
 unfolding midway
 hit_suc n before tick k due e = chosen _ _ e
 
-miss_suc : (n before tick k due : ℕ) → midway n before tick k due ≢ slot n tick k → midway n before tick (suc k) due ≡ midway n before tick k due
+miss_suc : (n before tick k due : ℕ) → midway n before tick k due ≢ slot n tick k
+    → midway n before tick (suc k) due ≡ midway n before tick k due
 unfolding midway
 miss_suc n before tick k due ne = skipped _ _ ne
 
 -- what stands on the list of the level k is moved next, and nothing else
-pub midway_hit : (n before tick k due : ℕ) → midway n before tick k due ≡ slot n tick k → midway n before tick (k + 1) due ≡ place n tick due
+pub midway_hit : (n before tick k due : ℕ) → midway n before tick k due ≡ slot n tick k
+    → midway n before tick (k + 1) due ≡ place n tick due
 midway_hit n before tick k due e = cc (add-one k, hit_suc n before tick k due e)
 
-pub midway_miss : (n before tick k due : ℕ) → midway n before tick k due ≢ slot n tick k → midway n before tick (k + 1) due ≡ midway n before tick k due
+pub midway_miss : (n before tick k due : ℕ) → midway n before tick k due ≢ slot n tick k
+    → midway n before tick (k + 1) due ≡ midway n before tick k due
 midway_miss n before tick k due ne = cc (add-one k, miss_suc n before tick k due ne)
 
 -- all the way a due tick stands where it stood, or where it will
@@ -47,7 +51,8 @@ unfolding midway
 still n before tick zero due e = e
 still n before tick (suc k) due e = remains n before tick k due (still n before tick k due e)
 
-reached_by : (n before tick k level due : ℕ) → level < k → place n before due ≡ slot n tick level → midway n before tick k due ≡ place n tick due
+reached_by : (n before tick k level due : ℕ) → level < k → place n before due ≡ slot n tick level
+    → midway n before tick k due ≡ place n tick due
 reached_by n before tick zero level due few at = absurd (omega arith)
 reached_by n before tick (suc k) level due few at = elim (cases_eq level k) [
   | inl q ↦ elim (either n before tick k due) [
@@ -72,7 +77,8 @@ midway_begins n before tick due = refl
 pub midway_still : (n now k due : ℕ) → midway n now now k due ≡ place n now due
 midway_still n now k due = still n now now k due refl
 
-pub midway_down : (n before tick k due : ℕ) → before ≤ tick → tick < due → k < reach tick → midway n before tick k due ≡ slot n tick k → GoesDown n tick due (slot n tick k)
+pub midway_down : (n before tick k due : ℕ) → before ≤ tick → tick < due → k < reach tick → midway n before tick k due ≡ slot n tick k
+    → GoesDown n tick due (slot n tick k)
 unfolding GoesDown
 midway_down n before tick k due later ahead few at = elim (either n before tick k due) [
   | inl e ↦ goes_down n _ tick due k later ahead (omega (arith, reach-le tick)) (sym e ∙ at)

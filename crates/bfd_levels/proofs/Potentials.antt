@@ -1,11 +1,15 @@
 -- What each call does to the potential, and what a list of calls may take.
-use Rattle.bfd_levels.proofs.Common.{◌≡◌, inl, inr, ℕ, zero, suc, ◌+◌, ◌*◌, ◌<◌, ◌≤◌, max, Bool, true, false, cond, List, [], ◌∷◌, map, replicate, refl, ap, arith, nat_le, slice_set, Option, None, Some, nat_tests, cases_lt, without, height, weight, potential, Clocked, potential_of}
-use Rattle.bfd_levels.specs.Calls.{WheelCall, Set, Clear, Advance, Made, wheel_after, KeepsSteps, KeepsAll, after_all, steps_of, call_share, shares}
+use Rattle.bfd_levels.proofs.Common.{◌≡◌, inl, inr, ℕ, zero, suc, ◌+◌, ◌*◌, ◌<◌, ◌≤◌, max, Bool, true, false, cond, List, [], ◌∷◌, map}
+use Rattle.bfd_levels.proofs.Common.{replicate, refl, ap, arith, nat_le, slice_set, Option, None, Some, nat_tests, cases_lt, without}
+use Rattle.bfd_levels.proofs.Common.{height, weight, potential, Clocked, potential_of}
+use Rattle.bfd_levels.specs.Calls.{WheelCall, Set, Clear, Advance, Made, wheel_after, KeepsSteps, KeepsAll, after_all, steps_of, call_share}
+use Rattle.bfd_levels.specs.Calls.{shares}
 use Rattle.bfd_levels.proofs.Digits.{height-le, height_later}
 
 -- ---- one due tick is written
 
-write_adds : (now id w : ℕ) (d : Option ℕ) (ds : List (Option ℕ)) → weight now d ≤ w → potential now (slice_set ds id d) ≤ potential now ds + w
+write_adds : (now id w : ℕ) (d : Option ℕ) (ds : List (Option ℕ)) → weight now d ≤ w
+    → potential now (slice_set ds id d) ≤ potential now ds + w
 write_adds now id w d [] h = omega arith
 write_adds now zero w d (e ∷ ds) h = omega arith
 write_adds now (suc id) w d (e ∷ ds) h = omega (arith, write_adds now id w d ds h)
@@ -19,10 +23,12 @@ pub clear_falls : (w : Clocked) (id : ℕ) → potential_of (wheel_after (Clear 
 clear_falls w id = omega (arith, write_adds w.clock id 0 None w.dues (omega arith))
 
 -- the same of what a call left
-pub set_rises : (w : Clocked) {clock : ℕ} {dues : List (Option ℕ)} (id due : ℕ) → clock ≡ w.clock → dues ≡ slice_set w.dues id (Some due) → potential clock dues ≤ potential_of w + 9
+pub set_rises : (w : Clocked) {clock : ℕ} {dues : List (Option ℕ)} (id due : ℕ) → clock ≡ w.clock → dues ≡ slice_set w.dues id (Some due)
+    → potential clock dues ≤ potential_of w + 9
 set_rises w {dues} id due time is = (let b = ap (λ k. potential k dues) time in omega (arith, set_adds w id due, ap (potential w.clock) is))
 
-pub clears_falls : (w : Clocked) {clock : ℕ} {dues : List (Option ℕ)} (id : ℕ) → clock ≡ w.clock → dues ≡ slice_set w.dues id None → potential clock dues ≤ potential_of w
+pub clears_falls : (w : Clocked) {clock : ℕ} {dues : List (Option ℕ)} (id : ℕ) → clock ≡ w.clock → dues ≡ slice_set w.dues id None
+    → potential clock dues ≤ potential_of w
 clears_falls w {dues} id time is = (let b = ap (λ k. potential k dues) time in omega (arith, clear_falls w id, ap (potential w.clock) is))
 
 -- ---- the clock goes on
@@ -51,7 +57,8 @@ advance_falls w t = potential_falls w.clock t w.dues
 
 -- ---- all calls
 
-one_call : (w : Clocked) (steps : ℕ) (call : WheelCall) → KeepsSteps w steps call → steps + potential_of (wheel_after call w) + 2 * w.clock ≤ call_share call + potential_of w + 2 * (wheel_after call w).clock
+one_call : (w : Clocked) (steps : ℕ) (call : WheelCall) → KeepsSteps w steps call
+    → steps + potential_of (wheel_after call w) + 2 * w.clock ≤ call_share call + potential_of w + 2 * (wheel_after call w).clock
 one_call w steps (Set id due) k = omega (arith, set_adds w id due)
 one_call w steps (Clear id) k = omega (arith, clear_falls w id)
 one_call w steps (Advance t) k = elim (cases_lt t w.clock) [
@@ -59,7 +66,8 @@ one_call w steps (Advance t) k = elim (cases_lt t w.clock) [
   | inr later ↦ (omega (arith, k.0 later, advance_falls w t))
 ]
 
-many_calls : (ms : List Made) (w : Clocked) → KeepsAll w ms → steps_of ms + potential_of (after_all ms w) + 2 * w.clock ≤ shares ms + potential_of w + 2 * (after_all ms w).clock
+many_calls : (ms : List Made) (w : Clocked) → KeepsAll w ms
+    → steps_of ms + potential_of (after_all ms w) + 2 * w.clock ≤ shares ms + potential_of w + 2 * (after_all ms w).clock
 many_calls [] w k = omega arith
 many_calls (m ∷ ms) w k = omega (arith, one_call w m.steps m.call k.0, many_calls ms (wheel_after m.call w) k.1)
 

@@ -5,12 +5,14 @@ use Rattle.bfd_levels.proofs.Loads.{loads_same}
 use Rattle.bfd_levels.proofs.Midway.{midway_begins, midway_ends, midway_still}
 use Rattle.bfd_levels.proofs.Paid.{IsPaid, paid_renamed}
 
-pub turn_begins : {n : ℕ} (before tick s : ℕ) {dues : List ℕ} {nodes : List Node} → IsPlaced n 1026 (at_tick n before dues) dues nodes → IsPaid n s (s + 0 + loads n (at_tick n before dues) dues) (at_midway n before tick 0 dues) dues nodes
+pub turn_begins : {n : ℕ} (before tick s : ℕ) {dues : List ℕ} {nodes : List Node} → IsPlaced n 1026 (at_tick n before dues) dues nodes
+    → IsPaid n s (s + 0 + loads n (at_tick n before dues) dues) (at_midway n before tick 0 dues) dues nodes
 turn_begins {n} before tick s {dues} {nodes} w =
     paid_renamed n s (s + 0 + loads n (at_tick n before dues) dues) (at_tick n before dues) (at_midway n before tick 0 dues) dues nodes
     (record { placed = w; cost = omega arith }) (λ j near there. midway_begins n before tick (slice_index dues j))
 
-pub turn_ends : {n : ℕ} (before : ℕ) {tick level s bound : ℕ} {dues : List ℕ} {nodes : List Node} → tick ≡ before + 1 → level ≡ reach tick → IsPaid n s bound (at_midway n before tick level dues) dues nodes → IsPaid n s bound (at_tick n tick dues) dues nodes
+pub turn_ends : {n : ℕ} (before : ℕ) {tick level s bound : ℕ} {dues : List ℕ} {nodes : List Node} → tick ≡ before + 1 → level ≡ reach tick
+    → IsPaid n s bound (at_midway n before tick level dues) dues nodes → IsPaid n s bound (at_tick n tick dues) dues nodes
 turn_ends {n} before {tick} {level} {s} {bound} {dues} {nodes} next all p =
     paid_renamed n s bound (at_midway n before tick level dues) (at_tick n tick dues) dues nodes p
     (λ j near there. sym (cc (midway_ends n before (slice_index dues j) next)))

@@ -1,5 +1,8 @@
 -- A walk along one list, which takes off what has come and moves the rest to other lists.
-use Rattle.bfd_levels.proofs.Common.{◌≡◌, ◌≢◌, ◌⊎◌, inl, inr, ℕ, suc, ◌+◌, ◌<◌, ◌≤◌, List, length, refl, ◌∙◌, ap, arith, slice_index, slice_set, get_or-set_same, get_or-set_other, length-set, cases_eq, cases_lt, never, Node, IsOn, Unlinks, due_in, next_in, prev_in, level_of, loads, head_for, IsPlaced, Relinks, ring_without, head_on, id_on, ranked, ranked_own, ranked_same, ranked_below}
+use Rattle.bfd_levels.proofs.Common.{◌≡◌, ◌≢◌, ◌⊎◌, inl, inr, ℕ, suc, ◌+◌, ◌<◌, ◌≤◌, List, length, refl, ◌∙◌, ap, arith, slice_index}
+use Rattle.bfd_levels.proofs.Common.{slice_set, get_or-set_same, get_or-set_other, length-set, cases_eq, cases_lt, never, Node, IsOn}
+use Rattle.bfd_levels.proofs.Common.{Unlinks, due_in, next_in, prev_in, level_of, loads, head_for, IsPlaced, Relinks, ring_without, head_on}
+use Rattle.bfd_levels.proofs.Common.{id_on, ranked, ranked_own, ranked_same, ranked_below}
 use Rattle.bfd_wheel.proofs.Walk.{upto, upto-le, upto_one, upto_falls, upto_up}
 use Rattle.bfd_levels.proofs.Placing.{head_id, head_own, head_same, out_of, ring_relinked, renamed}
 use Rattle.bfd_levels.proofs.Loads.{loads_same, loads_gone, loads_lower}
@@ -17,11 +20,13 @@ pub record IsWalk (n m head t s bound : ℕ) (from to : ℕ → ℕ) (dues : Lis
   pub placed : IsPlaced n m at dues nodes
   pub on : IsOn (n + m) (due_in dues) cur
   pub same : head_for n at cur ≡ head
-  pub each : (j : ℕ) → j < n → slice_index dues j ≢ never → Seen head t (placed.links.rank j) (placed.links.rank cur) (at j) (from (slice_index dues j)) (to (slice_index dues j)) (slice_index dues j)
+  pub each : (j : ℕ) → j < n → slice_index dues j ≢ never → Seen head t (placed.links.rank j) (placed.links.rank cur) (at j)
+      (from (slice_index dues j)) (to (slice_index dues j)) (slice_index dues j)
   pub left : i + upto placed.links.rank (placed.links.rank cur) n ≤ n
   pub spent : s + loads n at dues ≤ bound
 
-pub walk_begins : {n m head : ℕ} (t s : ℕ) (from to : ℕ → ℕ) {dues : List ℕ} {nodes : List Node} → IsPlaced n m (λ j. from (due_in dues j)) dues nodes → n ≤ head → head < n + m
+pub walk_begins : {n m head : ℕ} (t s : ℕ) (from to : ℕ → ℕ) {dues : List ℕ} {nodes : List Node}
+    → IsPlaced n m (λ j. from (due_in dues j)) dues nodes → n ≤ head → head < n + m
     → IsWalk n m head t s (s + loads n (λ j. from (due_in dues j)) dues) from to dues nodes (next_in nodes head) 0
 walk_begins {n} {m} {head} t s from to {dues} {nodes} w far inside =
     let at : ℕ → ℕ = λ j. from (due_in dues j) in
@@ -33,14 +38,16 @@ walk_begins {n} {m} {head} t s from to {dues} {nodes} w far inside =
       on = w.links.ring.next_on head on;
       same = w.links.ring.next_home head on ∙ own;
       each = λ j near there. elim (cases_eq (at j) head) [
-        | inl e ↦ ahead e e (w.links.ring.no_gap head j on (id_on n m dues j near there) (cc (head_id n at j near)) (λ h. absurd (omega arith)))
+        | inl e ↦ ahead e e (w.links.ring.no_gap head j on (id_on n m dues j near there) (cc (head_id n at j near))
+            (λ h. absurd (omega arith)))
         | inr ne ↦ elsewhere refl ne
       ];
       left = (let u = upto-le w.links.rank (w.links.rank (next_in nodes head)) n in omega arith);
       spent = omega arith;
     }
 
-module _ (n m head t s bound : ℕ) (from to : ℕ → ℕ) (dues : List ℕ) (nodes : List Node) (cur i : ℕ) (w : IsWalk n m head t s bound from to dues nodes cur i) where
+module _ (n m head t s bound : ℕ) (from to : ℕ → ℕ) (dues : List ℕ) (nodes : List Node) (cur i : ℕ)
+    (w : IsWalk n m head t s bound from to dues nodes cur i) where
   -- who isn't the head is an id
   pub walk_id : cur ≢ head → cur < n
   walk_id other = elim (cases_lt cur n) [
@@ -60,15 +67,18 @@ module _ (n m head t s bound : ℕ) (from to : ℕ → ℕ) (dues : List ℕ) (n
   ]
 
   next_other : cur < n → next_in nodes cur ≢ cur
-  next_other near = λ e. absurd (let same_rank : w.placed.links.rank (next_in nodes cur) ≡ w.placed.links.rank cur = cc in omega (arith, w.placed.links.ring.falls cur near w.on))
+  next_other near = λ e. absurd (let same_rank : w.placed.links.rank (next_in nodes cur) ≡ w.placed.links.rank cur = cc in
+      omega (arith, w.placed.links.ring.falls cur near w.on))
 
   -- who else is ahead is at most as far as the next
   next_seen : cur < n → (j : ℕ) → j < n → j ≢ cur → slice_index dues j ≢ never
-      → Seen head t (w.placed.links.rank j) (w.placed.links.rank (next_in nodes cur)) (w.at j) (from (slice_index dues j)) (to (slice_index dues j)) (slice_index dues j)
+      → Seen head t (w.placed.links.rank j) (w.placed.links.rank (next_in nodes cur)) (w.at j) (from (slice_index dues j))
+      (to (slice_index dues j)) (slice_index dues j)
   next_seen near j close ne there = elim (w.each j close there) [
     | elsewhere e off ↦ elsewhere e off
     | ahead a f le ↦ ahead a f (w.placed.links.ring.no_gap cur j w.on (id_on n m dues j close there) (cc (head_id n w.at j close))
-        (λ _. (let apart : w.placed.links.rank j ≢ w.placed.links.rank cur = λ q. ne (w.placed.links.ring.one j cur q close) in omega arith)))
+        (λ _. (let apart : w.placed.links.rank j ≢ w.placed.links.rank cur = λ q. ne (w.placed.links.ring.one j cur q close) in
+        omega arith)))
     | passed a f more ↦ passed a f more
   ]
 
@@ -76,7 +86,8 @@ module _ (n m head t s bound : ℕ) (from to : ℕ → ℕ) (dues : List ℕ) (n
   next_left near = omega (arith, upto_falls w.placed.links.rank _ _ cur n near refl (w.placed.links.ring.falls cur near w.on), w.left)
 
   -- a node that belongs where it stands
-  pub walk_stays : cur < n → t < slice_index dues cur → to (slice_index dues cur) ≡ head → IsWalk n m head t s bound from to dues nodes (next_in nodes cur) (i + 1)
+  pub walk_stays : cur < n → t < slice_index dues cur → to (slice_index dues cur) ≡ head
+      → IsWalk n m head t s bound from to dues nodes (next_in nodes cur) (i + 1)
   walk_stays near above stays = record {
     at = w.at;
     placed = w.placed;
@@ -91,7 +102,8 @@ module _ (n m head t s bound : ℕ) (from to : ℕ → ℕ) (dues : List ℕ) (n
   }
 
   -- a node that is taken: one step
-  pub walk_takes : (nodes2 : List Node) → cur < n → length nodes2 ≡ length nodes → Unlinks cur (next_in nodes) (prev_in nodes) (next_in nodes2) (prev_in nodes2)
+  pub walk_takes : (nodes2 : List Node) → cur < n → length nodes2 ≡ length nodes
+      → Unlinks cur (next_in nodes) (prev_in nodes) (next_in nodes2) (prev_in nodes2)
       → IsWalk n m head t (s + 1) bound from to (slice_set dues cur never) nodes2 (next_in nodes cur) (i + 1)
   walk_takes nodes2 near size u =
       let dues2 = slice_set dues cur never in
@@ -109,7 +121,8 @@ module _ (n m head t s bound : ℕ) (from to : ℕ → ℕ) (dues : List ℕ) (n
             rank = w.placed.links.rank;
             top = w.placed.links.top;
             below = w.placed.links.below;
-            ring = ring_without n (n + m) cur (due_in dues) (head_for n w.at) (next_in nodes) (prev_in nodes) w.placed.links.rank (due_in dues2) (head_for n w.at) (next_in nodes2) (prev_in nodes2) w.placed.links.ring near w.on
+            ring = ring_without n (n + m) cur (due_in dues) (head_for n w.at) (next_in nodes) (prev_in nodes) w.placed.links.rank
+                (due_in dues2) (head_for n w.at) (next_in nodes2) (prev_in nodes2) w.placed.links.ring near w.on
                 (out_of n m cur w.at w.at dues nodes nodes2 w.placed.count near (λ j ne. refl) u);
           };
         };
@@ -122,7 +135,8 @@ module _ (n m head t s bound : ℕ) (from to : ℕ → ℕ) (dues : List ℕ) (n
       }
 
   -- a node that is moved to a lower list: two steps
-  pub walk_moves : (nodes2 : List Node) {h : ℕ} → cur < n → t < slice_index dues cur → n ≤ h → h < n + m → h ≡ to (slice_index dues cur) → level_of n h < level_of n head
+  pub walk_moves : (nodes2 : List Node) {h : ℕ} → cur < n → t < slice_index dues cur → n ≤ h → h < n + m → h ≡ to (slice_index dues cur)
+      → level_of n h < level_of n head
       → length nodes2 ≡ length nodes → Relinks cur h (next_in nodes) (prev_in nodes) (next_in nodes2) (prev_in nodes2)
       → IsWalk n m head t (s + 2) bound from to dues nodes2 (next_in nodes cur) (i + 1)
   walk_moves nodes2 {h} near above far inside is lower size u =
@@ -142,11 +156,15 @@ module _ (n m head t s bound : ℕ) (from to : ℕ → ℕ) (dues : List ℕ) (n
             rank = rank2;
             top = suc w.placed.links.top;
             below = ranked_below cur _ _ w.placed.links.below;
-            ring = ring_relinked n m cur w.at at2 dues nodes nodes2 w.placed.count near at_same h w.placed.links.top w.placed.links.rank w.placed.links.ring w.placed.links.below w.on.there far inside at_own u;
+            ring = ring_relinked n m cur w.at at2 dues nodes nodes2 w.placed.count near at_same h w.placed.links.top w.placed.links.rank
+                w.placed.links.ring w.placed.links.below w.on.there far inside at_own u;
           };
         };
         on = w.placed.links.ring.next_on cur w.on;
-        same = cc (head_same n w.at at2 (next_in nodes cur) (λ _. at_same (next_in nodes cur) next_ne), w.placed.links.ring.next_home cur w.on);
+        same = cc (
+          head_same n w.at at2 (next_in nodes cur) (λ _. at_same (next_in nodes cur) next_ne),
+          w.placed.links.ring.next_home cur w.on,
+        );
         each = λ j close there. elim (cases_eq j cur) [
           | inl e ↦ rw e (passed (cc) (cur_from near) above)
           | inr ne ↦ elim (next_seen near j close ne there) [
@@ -157,20 +175,32 @@ module _ (n m head t s bound : ℕ) (from to : ℕ → ℕ) (dues : List ℕ) (n
         ];
         left = (
             let up = upto_up w.placed.links.rank rank2 (rank2 (next_in nodes cur)) n (λ j. elim (cases_eq j cur) [
-              | inl e ↦ (let own : rank2 j ≡ w.placed.links.top = cc (ranked_own cur w.placed.links.top w.placed.links.rank) in omega (arith, w.placed.links.below j))
+              | inl e ↦ (let own : rank2 j ≡ w.placed.links.top = cc (ranked_own cur w.placed.links.top w.placed.links.rank) in
+                  omega (arith, w.placed.links.below j))
               | inr ne ↦ (omega (arith, ranked_same cur w.placed.links.top w.placed.links.rank j ne))
             ]) in
-            let same_bound : upto w.placed.links.rank (rank2 (next_in nodes cur)) n ≡ upto w.placed.links.rank (w.placed.links.rank (next_in nodes cur)) n = cc in
+            let same_bound : upto w.placed.links.rank (rank2 (next_in nodes cur)) n
+            ≡ upto w.placed.links.rank (w.placed.links.rank (next_in nodes cur)) n = cc in
             omega (arith, next_left near));
-        spent = omega (arith, loads_lower n cur w.at at2 dues near w.on.there (omega (arith, ap (level_of n) at_own, ap (level_of n) (cur_at near))) at_same, w.spent);
+        spent = omega (
+          arith,
+          loads_lower n cur w.at at2 dues near w.on.there
+              (omega (arith, ap (level_of n) at_own, ap (level_of n) (cur_at near))) at_same,
+          w.spent,
+        );
       }
 
   -- a walk that is back at the head, or has made n steps, has passed all of its list
-  module _ (after : ℕ → ℕ) (hit : (d : ℕ) → from d ≡ head → after d ≡ to d) (miss : (d : ℕ) → from d ≢ head → after d ≡ from d) (far : n ≤ head) (done : (cur ≡ head) ⊎ (n ≤ i)) where
+  module _ (after : ℕ → ℕ) (hit : (d : ℕ) → from d ≡ head → after d ≡ to d) (miss : (d : ℕ) → from d ≢ head → after d ≡ from d)
+      (far : n ≤ head) (done : (cur ≡ head) ⊎ (n ≤ i)) where
     end_head : n ≤ cur
     end_head = elim done [
       | inl e ↦ omega arith
-      | inr steps ↦ elim (cases_lt cur n) [ inl near ↦ absurd (let one = upto_one w.placed.links.rank (w.placed.links.rank cur) cur n near (omega arith) in let l = w.left in omega arith) | inr h ↦ h ]
+      | inr steps ↦ elim (cases_lt cur n) [
+        | inl near ↦ absurd
+            (let one = upto_one w.placed.links.rank (w.placed.links.rank cur) cur n near (omega arith) in let l = w.left in omega arith)
+        | inr h ↦ h
+      ]
     ]
 
     none_ahead : {j : ℕ} → j < n → w.placed.links.rank j ≤ w.placed.links.rank cur → ⊥

@@ -1,4 +1,5 @@
 //! Timers in the form that suits their number.
+ghost use Rattle.std.specs.Prelude.{◌≡◌, IfOk, IfSome};
 ghost use Rattle.bfd_levels.specs.ByCount.{dues_of};
 
 use crate::levels::Levels;
@@ -20,6 +21,34 @@ pub enum ByCount {
     Many(Levels),
 }
 
+/// A wheel with the same due ticks, where a plain list has as many ids as suit it. Fails only when out of memory.
+fn wheel_for(alloc: Global, timers: &ByCount) -> Result<Option<Levels>, AllocError>
+    ensures { IfOk result (λ wheel. IfSome wheel (λ levels. levels.dues ≡ dues_of timers.now)) }
+{
+    let ByCount::Few(plain) = timers else {
+        return Ok(None);
+    };
+    let dues = plain.dues();
+    if dues.len() < FEW as usize {
+        return Ok(None);
+    }
+    let levels = Levels::of(alloc, dues)?;
+    Ok(Some(levels))
+}
+
+/// Makes a wheel of a plain list that has as many ids as suit it. Fails only when out of memory.
+fn outgrow(alloc: Global, timers: &mut ByCount) -> Result<(), AllocError>
+    ensures { dues_of timers.new ≡ dues_of timers.old }
+{
+    match wheel_for(alloc, timers)? {
+        Some(levels) => {
+            *timers = ByCount::Many(levels);
+            Ok(())
+        }
+        None => Ok(()),
+    }
+}
+
 impl Timers for ByCount {
     ghost dues = { λ timers. dues_of timers };
 
@@ -32,10 +61,18 @@ impl Timers for ByCount {
         Ok(ByCount::Many(timers))
     }
 
-    fn restart(&mut self, count: u32) {
+    fn insert(&mut self, alloc: Global, id: u32, due: Option<u64>) -> Result<(), AllocError> {
+        outgrow(alloc, self)?;
         match self {
-            ByCount::Few(timers) => timers.restart(count),
-            ByCount::Many(timers) => timers.restart(count),
+            ByCount::Few(timers) => timers.insert(alloc, id, due),
+            ByCount::Many(timers) => timers.insert(alloc, id, due),
+        }
+    }
+
+    fn remove(&mut self, id: u32) {
+        match self {
+            ByCount::Few(timers) => timers.remove(id),
+            ByCount::Many(timers) => timers.remove(id),
         }
     }
 

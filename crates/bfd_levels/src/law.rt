@@ -1,4 +1,4 @@
-//! What calls do to the potential, and what they may take in the long run.
+//! What calls do to the potential, and how many steps they may take in the long run.
 ghost use Rattle.std.specs.Prelude.{ℕ, ◌+◌, ◌*◌, ◌≤◌, List, Option, None, Some, replicate, slice_set};
 ghost use Rattle.bfd_levels.specs.Height.{Clocked, potential_of};
 ghost use Rattle.bfd_levels.specs.Calls.{WheelCall, Advance, Clear, Set, Made, wheel_after, after_all, steps_of, shares, KeepsAll};

@@ -1,16 +1,19 @@
 //! Timers as a wheel of levels.
-ghost use Rattle.std.specs.Prelude.{◌≡◌, ℕ, ◌+◌, ◌-◌, ◌*◌, ◌^◌, ◌++◌, ◌≤◌, ◌<◌, max, map, length, replicate, None, Some, IfOk, slice_set};
+ghost use Rattle.std.specs.Prelude.{◌≡◌, ℕ, ◌+◌, ◌-◌, ◌*◌, ◌^◌, ◌++◌, ◌≤◌, ◌<◌, max, map, length, replicate, None, Some, IfOk, IfSome, OnErr, OnOk, slice_set};
+ghost use Rattle.std.specs.List.{insert, remove};
 ghost use Rattle.bfd_lanes.specs.Held.{room_of};
-ghost use Rattle.bfd_lanes.specs.Places.{come, without};
+ghost use Rattle.bfd_lanes.specs.Places.{come, due_of, without};
 ghost use Rattle.bfd_levels.specs.Height.{potential_of};
+ghost use Rattle.bfd_num.specs.Counting.{IsBlankOf};
 
 use crate::advance::take;
+use crate::anew::{insert_id, link_all, remove_id};
 use crate::change::{change, drop_due};
 use crate::place::HEADS;
-use crate::soonest::{after_advance, least_of};
+use crate::soonest::{after_advance, least_of, lowest_of};
 use bfd_lanes::{Ids, NEVER};
 use bfd_num::Steps;
-use bfd_wheel::{Node, Timers, due_at, loops, loops_again, no_dues, no_dues_again};
+use bfd_wheel::{Node, Timers, due_at, loops, no_dues};
 use std::alloc::{AllocError, Global};
 use std::marker::{Brand, Model};
 use std::sync::ledger::{Blank, Ledger};
@@ -56,14 +59,26 @@ impl Timers for Levels {
         })
     }
 
-    fn restart(&mut self, count: u32)
-        requires { count ≤ length self.old.dues }
-        ensures { self.new ≡ record { clock = 0; dues = replicate count None } }
+    fn insert(&mut self, _alloc: Global, id: u32, due: Option<u64>) -> Result<(), AllocError>
+        requires id { id ≤ length self.old.dues }
+        requires few { length self.old.dues < 65536 }
+        requires due { IfSome due (λ t. t < 2 ^ 60) }
+        ensures dues { OnOk result (self.new.dues ≡ insert self.old.dues id due) }
+        ensures clock { self.new.clock ≡ self.old.clock }
+        ensures same { OnErr result (self.new.dues ≡ self.old.dues) }
     {
-        no_dues_again(&mut self.dues, count);
-        loops_again(&mut self.nodes, count + HEADS);
-        self.clock = 0;
-        self.soonest = NEVER;
+        insert_id(&mut self.nodes, &mut self.dues, self.clock, id, due)?;
+        self.soonest = lowest_of(&self.dues);
+        Ok(())
+    }
+
+    fn remove(&mut self, id: u32)
+        requires { id < length self.old.dues }
+        ensures dues { self.new.dues ≡ remove self.old.dues id }
+        ensures clock { self.new.clock ≡ self.old.clock }
+    {
+        remove_id(&mut self.nodes, &mut self.dues, self.clock, id);
+        self.soonest = lowest_of(&self.dues);
     }
 
     fn set<L: Ledger>(&mut self, id: u32, due: u64, steps: &mut Steps<L>)
@@ -123,6 +138,22 @@ impl Timers for Levels {
 }
 
 impl Levels {
+    /// A wheel with these due ticks, `NEVER` for none, that was advanced to no tick. Fails only when out of memory.
+    pub(crate) fn of(alloc: Global, dues: &[u64]) -> Result<Levels, AllocError>
+        requires { length dues.now ≤ 65536 }
+        ensures { IfOk result (λ levels. levels ≡ record { clock = 0; dues = map due_of dues.now }) }
+    {
+        let dues = Vec::from_slice(alloc, dues)?;
+        let mut nodes = loops(alloc, dues.len() as u32 + HEADS)?;
+        link_all(&mut nodes, &dues, 0);
+        Ok(Levels {
+            clock: 0,
+            soonest: lowest_of(&dues),
+            dues,
+            nodes,
+        })
+    }
+
     /// The greatest tick that the wheel was advanced to, 0 at first.
     pub fn now(&self) -> u64
         ensures { result ≡ self.now.clock }
@@ -172,9 +203,7 @@ impl Levels {
 fn advance_uncounted<L: Ledger>(levels: &mut Levels, t: u64, out: &mut Ids, blank: Blank)
     requires t { t < 2 ^ 60 }
     requires room { length levels.old.dues ≤ out.old.spare }
-    requires name { blank.name ≡ L.name }
-    requires parts { blank.parts ≡ L.parts }
-    requires some { 0 < blank.parts }
+    requires blank { IsBlankOf L.name L.parts blank.name blank.parts }
     ensures items { out.new.items ≡ out.old.items ++ come t levels.old.dues }
     ensures room { room_of out.new ≡ room_of out.old }
     ensures dues { levels.new.dues ≡ map (without t) levels.old.dues }

@@ -9,6 +9,7 @@
 #![tactic(auto)]
 
 mod advance;
+mod anew;
 mod by_count;
 mod change;
 mod jump;

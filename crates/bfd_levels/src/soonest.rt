@@ -20,7 +20,7 @@ fn is_empty(nodes: &[Node], head: u32) -> bool
 }
 
 /// The lowest of the numbers, by a look at each, eight at a time.
-fn lowest_of(dues: &[u64]) -> u64
+pub(crate) fn lowest_of(dues: &[u64]) -> u64
     ensures { result ≡ lowest dues.now }
 {
     match least_due(dues) {
@@ -58,7 +58,7 @@ fn first_near(nodes: &[Node], dues: &[u64], now: u64, from: u64) -> Option<u64>
     None
 }
 
-/// The lowest of the numbers, of which none is below `from`: `from` itself, if it is found to be there still, or else by
+/// The lowest of the numbers, of which none is below `from`: `from` itself, if it is found to be still present, or else by
 /// the lists of level 0, or else by a look at each number.
 fn first_due(nodes: &[Node], dues: &[u64], now: u64, from: u64) -> u64
     requires { IsLevels (length dues.now) now dues.now nodes.now }

@@ -13,7 +13,7 @@ use bfd_num::Steps;
 use bfd_wheel::Node;
 use std::sync::ledger::Ledger;
 
-/// The clock comes to `tick`, the one after `before`: what stands on the lists that it reaches is taken if it has come
+/// The clock reaches `tick`, the one after `before`: what stands on the lists that it reaches is taken if it has come
 /// by `t`, and else moved down.
 fn turn<L: Ledger>(
     nodes: &mut [Node],

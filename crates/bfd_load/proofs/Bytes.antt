@@ -1,5 +1,6 @@
 -- The bytes of a packet.
-use Rattle.std.proofs.Common.{◌≡◌, ◌<◌, ◌+◌, ◌*◌, ◌/◌, ◌^◌, ◌==◌, ◌++◌, ℕ, zero, suc, Bool, true, false, not, List, [], ◌∷◌, length, take, arith, refl}
+use Rattle.std.proofs.Common.{◌≡◌, ◌<◌, ◌+◌, ◌*◌, ◌/◌, ◌^◌, ◌==◌, ◌++◌, ℕ, zero, suc, Bool, true, false, not, List, [], ◌∷◌, length, take}
+use Rattle.std.proofs.Common.{arith, refl}
 use Rattle.std.proofs.Math.Nat.{mod-lt}
 use Rattle.std.proofs.Math.Seq.{take_all}
 use Rattle.std.specs.Int.{byte_at, bytes_high_first}
@@ -42,7 +43,8 @@ are_bytes i p =
     let your : List ℕ = bytes_high_first 4 c.your ++ tx in
     let my : List ℕ = bytes_high_first 4 c.my ++ your in
     let words : IsBytes my =
-    bytes_then 4 c.my your (bytes_then 4 c.your tx (bytes_then 4 c.min_tx rx (bytes_then 4 c.min_rx echo (bytes_then 4 c.min_echo [] none)))) in
+    bytes_then 4 c.my your (bytes_then 4 c.your tx (bytes_then 4 c.min_tx rx
+    (bytes_then 4 c.min_rx echo (bytes_then 4 c.min_echo [] none)))) in
     byte_then 32 (flag_byte c [] ∷ 3 ∷ 24 ∷ my) (omega arith) (byte_then _ (3 ∷ 24 ∷ my) (flags_below (p == 0))
     (byte_then 3 (24 ∷ my) (omega arith) (byte_then 24 my (omega arith) words)))
 

@@ -15,7 +15,8 @@ one_more false {r} a n us is below rest = let other : a % 300 ≡ r → ⊥ = gr
 
 count_is : (r a n : ℕ) → r < 300 → length (filter (λ u. u % 300 == r) (range_with_len a n)) ≡ (n + 299 - gap r a) / 300
 count_is r a zero below = omega arith
-count_is r a (suc n) below = one_more (a % 300 == r) a n (filter (λ u. u % 300 == r) (range_with_len (a + 1) n)) refl below (count_is r (a + 1) n below)
+count_is r a (suc n) below = one_more (a % 300 == r) a n (filter (λ u. u % 300 == r) (range_with_len (a + 1) n)) refl below
+    (count_is r (a + 1) n below)
 
 pub earlier_is : (t : ℕ) → 0 < t → earlier t ≡ (t - 1) / 300
 unfolding earlier

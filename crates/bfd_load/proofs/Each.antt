@@ -10,7 +10,8 @@ module _ {X : Type 0} (P : X → Type 0) where
   all_map f a zero h = tt
   all_map f a (suc n) h = (h a (omega arith) (omega arith), all_map f (a + 1) n (λ i low high. h i (omega arith) (omega arith)))
 
-  one_picked : (f : ℕ → X) (b : Bool) {a : ℕ} (us : List ℕ) → P (f a) → AllByRecursion P (map f us) → AllByRecursion P (map f (cond b (a ∷ us) us))
+  one_picked : (f : ℕ → X) (b : Bool) {a : ℕ} (us : List ℕ) → P (f a) → AllByRecursion P (map f us)
+      → AllByRecursion P (map f (cond b (a ∷ us) us))
   one_picked f true us h k = (h, k)
   one_picked f false us h k = k
 
@@ -20,7 +21,8 @@ module _ {X : Type 0} (P : X → Type 0) where
   all_picked f test a (suc n) h = one_picked f (test a) (filter test (range_with_len (a + 1) n)) (h a (omega arith) (omega arith))
       (all_picked f test (a + 1) n (λ i low high. h i (omega arith) (omega arith)))
 
-  pub all_gathered : (f : ℕ → List X) (a n : ℕ) → ((i : ℕ) → a ≤ i → i < a + n → AllByRecursion P (f i)) → AllByRecursion P (flat_map f (range_with_len a n))
+  pub all_gathered : (f : ℕ → List X) (a n : ℕ) → ((i : ℕ) → a ≤ i → i < a + n → AllByRecursion P (f i))
+      → AllByRecursion P (flat_map f (range_with_len a n))
   all_gathered f a zero h = tt
   all_gathered f a (suc n) h = each_more P (f a) (flat_map f (range_with_len (a + 1) n)) (h a (omega arith) (omega arith))
       (all_gathered f (a + 1) n (λ i low high. h i (omega arith) (omega arith)))
@@ -30,12 +32,14 @@ range_more a zero j is = let same : a ≡ j = omega arith in cc
 range_more a (suc n) j is = cc (range_more (a + 1) n j (omega arith))
 
 -- the same with one number more of a range, where each gives an element
-pub made_more : {X : Type 0} (f : ℕ → X) {n : ℕ} (m : ℕ) {j : ℕ} {before now : List X} → before ≡ map f (range_with_len 1 n) → now ≡ before ++ f j ∷ []
+pub made_more : {X : Type 0} (f : ℕ → X) {n : ℕ} (m : ℕ) {j : ℕ} {before now : List X} → before ≡ map f (range_with_len 1 n)
+    → now ≡ before ++ f j ∷ []
     → 1 + n ≡ j → m ≡ suc n → now ≡ map f (range_with_len 1 m)
 made_more f {n} m {j} so_far added is more = cc (map-append f (range_with_len 1 n) (j ∷ []), range_more 1 n j is)
 
 -- .. and where each gives a list
-pub gathered_more : {X : Type 0} (f : ℕ → List X) {n : ℕ} (m : ℕ) {j : ℕ} {before now : List X} → before ≡ flat_map f (range_with_len 1 n) → now ≡ before ++ f j
+pub gathered_more : {X : Type 0} (f : ℕ → List X) {n : ℕ} (m : ℕ) {j : ℕ} {before now : List X} → before ≡ flat_map f (range_with_len 1 n)
+    → now ≡ before ++ f j
     → 1 + n ≡ j → m ≡ suc n → now ≡ flat_map f (range_with_len 1 m)
 gathered_more f {n} m {j} so_far added is more = cc (append-nil (f j), flat_map-append f (range_with_len 1 n) (j ∷ []), range_more 1 n j is)
 

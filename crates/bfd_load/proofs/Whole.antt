@@ -1,5 +1,6 @@
 -- The script is one that the grammar gives.
-use Rattle.std.proofs.Common.{◌≡◌, ◌<◌, ◌≤◌, ◌+◌, ◌*◌, ◌%◌, ◌==◌, ◌&&◌, ℕ, zero, suc, Bool, true, false, cond, List, [], ◌∷◌, length, map, refl, sym, subst, arith, length-append, not}
+use Rattle.std.proofs.Common.{◌≡◌, ◌<◌, ◌≤◌, ◌+◌, ◌*◌, ◌%◌, ◌==◌, ◌&&◌, ℕ, zero, suc, Bool, true, false, cond, List, [], ◌∷◌, length, map}
+use Rattle.std.proofs.Common.{refl, sym, subst, arith, length-append, not}
 use Rattle.std.proofs.lemmas.List.{length-map}
 use Rattle.std.proofs.Math.Nat.{mod-lt}
 use Rattle.std.proofs.lemmas.Bool.Decides.{nat_tests}
@@ -36,7 +37,8 @@ other_selector seed a i less = cc (other_peer less)
 differs : (seed a n : ℕ) → Differs (map (config seed) (range_with_len a n))
 differs seed a zero = tt
 differs seed a (suc n) = (
-  all_map (λ later. same_selector (config seed a) later ≡ false) (config seed) (a + 1) n (λ i low high. other_selector seed a i (omega arith)),
+  all_map (λ later. same_selector (config seed a) later ≡ false) (config seed) (a + 1) n
+      (λ i low high. other_selector seed a i (omega arith)),
   differs seed (a + 1) n,
 )
 
@@ -87,7 +89,8 @@ is_packet t i tick session = record {
 }
 
 -- what is true of each packet and of each tick is true of each event
-each_event : (P : Line → Type 0) (n k : ℕ) → ((t i : ℕ) → t ≤ k → i ≤ n → P (packet t i)) → ((t : ℕ) → t ≤ k → P (Tick t)) → AllByRecursion P (events n k)
+each_event : (P : Line → Type 0) (n k : ℕ) → ((t i : ℕ) → t ≤ k → i ≤ n → P (packet t i)) → ((t : ℕ) → t ≤ k → P (Tick t))
+    → AllByRecursion P (events n k)
 each_event P n k each tick = all_gathered P (tick_events n) 1 k (λ t low high. each_more P (packets n t) (Tick t ∷ [])
     (all_picked P (packet t) (hears t) 1 n (λ i from to. each t i (omega arith) (omega arith))) (tick t (omega arith), tt))
 
@@ -100,7 +103,8 @@ one_more false live t a n us is rest = let other : t % 300 ≡ a % 300 → ⊥ =
 
 few_hear : (t a n : ℕ) → 300 * length (filter (hears t) (range_with_len a n)) + gap (t % 300) a ≤ n + 299
 few_hear t a zero = omega arith
-few_hear t a (suc n) = one_more (t % 300 == a % 300) (not (is_silent a (earlier t))) t a n (filter (hears t) (range_with_len (a + 1) n)) refl
+few_hear t a (suc n) = one_more (t % 300 == a % 300) (not (is_silent a (earlier t))) t a n (filter (hears t) (range_with_len (a + 1) n))
+    refl
     (few_hear t (a + 1) n)
 
 few_packets : {n : ℕ} (t : ℕ) → n ≤ 5000 → length (packets n t) ≤ 17

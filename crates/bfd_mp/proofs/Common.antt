@@ -1,5 +1,6 @@
 -- Names that proofs of this crate cite, passed on from one place. Declares nothing.
-pub use Rattle.std.proofs.Common.{Bool, IfSome, IsSome, List, None, Option, Some, ap, arith, false, if◌then◌else◌, is_some, min, not, refl, sym, true, ℕ, ◌&&◌, ◌-◌, ◌<◌, ◌==◌, ◌^◌, ◌↔◌, ◌≡◌, ◌≤◌}
+pub use Rattle.std.proofs.Common.{Bool, IfSome, IsSome, List, None, Option, Some, ap, arith, false, if◌then◌else◌, is_some, min, not, refl}
+pub use Rattle.std.proofs.Common.{sym, true, ℕ, ◌&&◌, ◌-◌, ◌<◌, ◌==◌, ◌^◌, ◌↔◌, ◌≡◌, ◌≤◌}
 pub use Rattle.bfd_mp.specs.Command.{head_done, head_refusal, tail_done, tail_refusal}
 unfoldable pub use Rattle.bfd_mp.specs.Command.{head_commanded, tail_commanded}
 pub use Rattle.bfd_mp.specs.Sound.{IsHeadSound, IsHeadSteady, IsTailSound}
@@ -11,7 +12,8 @@ pub use Rattle.bfd_num.specs.Due.{has_come}
 pub use Rattle.bfd_num.specs.Numbers.{floor_tick, moment_bound, next_j}
 pub use Rattle.bfd_packet.specs.Layout.{fields_of}
 pub use Rattle.bfd_packet.specs.declared.control.Control.{Control}
-pub use Rattle.bfd_rules.proofs.Courses.{OfOwn, after, changes-after, changes_names, chosen_names, either, own_name, sends-after, sends_names}
+pub use Rattle.bfd_rules.proofs.Courses.{OfOwn, after, changes-after, changes_names, chosen_names, either, own_name, sends-after}
+pub use Rattle.bfd_rules.proofs.Courses.{sends_names}
 pub use Rattle.bfd_rules.specs.EventFrame.{Course, based, begins, course, draws, enters, is_news, is_untold, stamped}
 unfoldable pub use Rattle.bfd_rules.specs.EventFrame.{changes, drawn, redrawn, sends}
 pub use Rattle.bfd_rules.specs.Quantities.{is_admin_down, is_up, may_send, tx_interval}

@@ -1,6 +1,8 @@
 -- An event by which nothing is due, and which does nothing of its own, leaves sound variables as they are and puts
 -- nothing out.
-use Rattle.bfd_mp.proofs.Common.{◌≡◌, ◌&&◌, not, ℕ, Bool, true, false, refl, sym, ap, List, floor_tick, has_come, Out, Vars, may_send, Course, course, begins, is_news, is_untold, drawn, redrawn, HeadConfig, TailConfig, deadline, IsHeadSound, IsTailSound, Mark}
+use Rattle.bfd_mp.proofs.Common.{◌≡◌, ◌&&◌, not, ℕ, Bool, true, false, refl, sym, ap, List, floor_tick, has_come, Out, Vars, may_send}
+use Rattle.bfd_mp.proofs.Common.{Course, course, begins, is_news, is_untold, drawn, redrawn, HeadConfig, TailConfig, deadline, IsHeadSound}
+use Rattle.bfd_mp.proofs.Common.{IsTailSound, Mark}
 use Rattle.std.proofs.Math.Bool.{and-false}
 use Rattle.bfd_rules.proofs.Still.{no_news, drawn_stands}
 use Rattle.bfd_mp.specs.HeadSettle as head
@@ -10,7 +12,8 @@ use Rattle.bfd_mp.proofs.Drawing.{may_always}
 
 -- a head
 
-head_settle_rests : (c : HeadConfig) (limit eff : ℕ) (s : Course) → has_come (floor_tick limit) s.vars.tx_due ≡ false → head.settle c limit eff s ≡ s
+head_settle_rests : (c : HeadConfig) (limit eff : ℕ) (s : Course) → has_come (floor_tick limit) s.vars.tx_due ≡ false
+    → head.settle c limit eff s ≡ s
 unfolding head.settle
 head_settle_rests c limit eff s due_later = rw due_later refl
 
@@ -21,7 +24,10 @@ head_finish_rests c eff {v} os sound = rw (no_news v, drawn_stands true v (λ _.
 
 pub head_rests : (c : HeadConfig) (limit eff : ℕ) (v : Vars) (os : List Out) → IsHeadSound v → has_come (floor_tick limit) v.tx_due ≡ false
     → finishing.finish c eff (head.settle c limit eff (course v (begins v) os)) ≡ course v (begins v) os
-head_rests c limit eff v os sound due_later = cc (head_settle_rests c limit eff (course v (begins v) os) due_later, head_finish_rests c eff os sound)
+head_rests c limit eff v os sound due_later = cc (
+  head_settle_rests c limit eff (course v (begins v) os) due_later,
+  head_finish_rests c eff os sound,
+)
 
 -- a tail, whose events end with nothing
 

@@ -1,5 +1,9 @@
 -- Each part of an event keeps a head's variables steady and a tail's sound, and the end of a head's event makes them sound.
-use Rattle.bfd_mp.proofs.Common.{◌≡◌, ◌<◌, ◌≤◌, ◌==◌, ◌-◌, min, ℕ, Bool, true, false, refl, Some, IsSome, is_some, List, arith, if◌then◌else◌, Control, fields_of, moment_bound, floor_tick, has_come, Cmd, Vars, is_up, is_admin_down, Course, changes, sends, stamped, enters, is_untold, based, redrawn, HeadConfig, TailConfig, deadline, IsHeadSteady, IsHeadSound, IsTailSound, transmits, head_refusal, head_commanded, head_done, tail_refusal, tail_commanded, tail_done, common_steps, AdminDown, Down, Init, Up}
+use Rattle.bfd_mp.proofs.Common.{◌≡◌, ◌<◌, ◌≤◌, ◌==◌, ◌-◌, min, ℕ, Bool, true, false, refl, Some, IsSome, is_some, List, arith}
+use Rattle.bfd_mp.proofs.Common.{if◌then◌else◌, Control, fields_of, moment_bound, floor_tick, has_come, Cmd, Vars, is_up, is_admin_down}
+use Rattle.bfd_mp.proofs.Common.{Course, changes, sends, stamped, enters, is_untold, based, redrawn, HeadConfig, TailConfig, deadline}
+use Rattle.bfd_mp.proofs.Common.{IsHeadSteady, IsHeadSound, IsTailSound, transmits, head_refusal, head_commanded, head_done, tail_refusal}
+use Rattle.bfd_mp.proofs.Common.{tail_commanded, tail_done, common_steps, AdminDown, Down, Init, Up}
 use Rattle.std.proofs.lemmas.Bool.Decides.{nat_tests}
 use Rattle.bfd_packet.specs.declared.control.State.{State}
 use Rattle.bfd_rules.specs.declared.commands.Cmd.TheVariants.{Disable, Enable, Tx, Mult}
@@ -28,13 +32,16 @@ counted_steady left few none steady = grind (arith, common_steps, nat_tests)
 
 fewer_by : {v : Vars} (none : Bool) → IsHeadSteady v → IsHeadSteady (if none then v else counted (v.left - 1) v)
 fewer_by true steady = steady
-fewer_by {v} false steady = counted_steady (v.left - 1) (omega (arith, steady.left_below)) (λ down. omega (arith, steady.none_down down)) steady
+fewer_by {v} false steady = counted_steady (v.left - 1) (omega (arith, steady.left_below)) (λ down. omega (arith, steady.none_down down))
+    steady
 
-periodic_packet_steady : (c : HeadConfig) {eff : ℕ} (s : Course) → eff < moment_bound → IsHeadSteady s.vars → IsHeadSteady (head.periodic_packet c eff s).vars
+periodic_packet_steady : (c : HeadConfig) {eff : ℕ} (s : Course) → eff < moment_bound → IsHeadSteady s.vars
+    → IsHeadSteady (head.periodic_packet c eff s).vars
 unfolding head.periodic_packet
 periodic_packet_steady c s h steady = based_steady h (fewer_by (s.vars.left == 0) steady)
 
-head_settle_steady : (c : HeadConfig) (limit : ℕ) {eff : ℕ} (s : Course) → eff < moment_bound → IsHeadSteady s.vars → IsHeadSteady (head.settle c limit eff s).vars
+head_settle_steady : (c : HeadConfig) (limit : ℕ) {eff : ℕ} (s : Course) → eff < moment_bound → IsHeadSteady s.vars
+    → IsHeadSteady (head.settle c limit eff s).vars
 unfolding head.settle
 head_settle_steady c limit {eff} s h steady =
     steady_choice (has_come (floor_tick limit) s.vars.tx_due) (head.periodic_packet c eff s) s (periodic_packet_steady c s h steady) steady
@@ -53,7 +60,8 @@ at_once_steady : {n : ℕ} {v : Vars} → 10000 ≤ n → n ≤ 60000000 → IsH
 at_once_steady least most steady = grind (arith, common_steps)
 
 interval_by : {n : ℕ} {v : Vars} (same up : Bool) → 10000 ≤ n → n ≤ 60000000 → is_up v.state ≡ up → IsHeadSteady v
-    → IsHeadSteady (if same then v else (if up then record (counted v.mult v) { tx = n; used_tx = min v.used_tx n } else record v { tx = n; used_tx = n }))
+    → IsHeadSteady (if same then v else (if up then record (counted v.mult v) { tx = n; used_tx = min v.used_tx n } else record
+    v { tx = n; used_tx = n }))
 interval_by true up least most is steady = steady
 interval_by false true least most is steady = longer_steady least most is steady
 interval_by false false least most is steady = at_once_steady least most steady
@@ -74,7 +82,8 @@ head_done_steady (Tx n) {v} free steady = interval_by (n == v.tx) (is_up v.state
 head_done_steady (Mult n) free steady = mult_steady n free steady
 head_done_steady cmd free steady = steady
 
-head_commanded_by : (c : HeadConfig) (cmd : Cmd) (s : Course) (refused : Bool) → is_some (head_refusal s.vars cmd) ≡ refused → IsHeadSteady s.vars
+head_commanded_by : (c : HeadConfig) (cmd : Cmd) (s : Course) (refused : Bool) → is_some (head_refusal s.vars cmd) ≡ refused
+    → IsHeadSteady s.vars
     → IsHeadSteady (if refused then s else changes c.discr (head_done cmd s.vars) s).vars
 unfolding changes
 head_commanded_by c cmd s true is steady = steady
@@ -84,11 +93,14 @@ head_commanded_steady : (c : HeadConfig) (cmd : Cmd) (s : Course) → IsHeadStea
 unfolding head_commanded
 head_commanded_steady c cmd s steady = head_commanded_by c cmd s (is_some (head_refusal s.vars cmd)) refl steady
 
-extra_steady : (c : HeadConfig) {eff : ℕ} (s : Course) → eff < moment_bound → IsHeadSteady s.vars → IsHeadSteady (finishing.extra c eff s).vars
+extra_steady : (c : HeadConfig) {eff : ℕ} (s : Course) → eff < moment_bound → IsHeadSteady s.vars
+    → IsHeadSteady (finishing.extra c eff s).vars
 unfolding finishing.extra transmits sends
-extra_steady c {eff} s h steady = steady_choice (is_untold true s.mark s.vars) (based eff (transmits c false s)) s (based_steady h steady) steady
+extra_steady c {eff} s h steady = steady_choice (is_untold true s.mark s.vars) (based eff (transmits c false s)) s (based_steady h steady)
+    steady
 
-head_finish_sound : (c : HeadConfig) {eff : ℕ} (s : Course) → eff < moment_bound → IsHeadSteady s.vars → IsHeadSound (finishing.finish c eff s).vars
+head_finish_sound : (c : HeadConfig) {eff : ℕ} (s : Course) → eff < moment_bound → IsHeadSteady s.vars
+    → IsHeadSound (finishing.finish c eff s).vars
 unfolding finishing.finish redrawn
 head_finish_sound c {eff} s h steady = drawn_sound (finishing.extra c eff s).mark (extra_steady c s h steady)
 
@@ -108,7 +120,8 @@ head_command_sound c limit eff cmd s h steady = head_finish_sound c (head_comman
 pub tail_stamped_sound : (c : TailConfig) (eff : ℕ) (v : Vars) → eff < moment_bound → IsTailSound c v → IsTailSound c (stamped (Some eff) v)
 tail_stamped_sound c eff v h sound = grind (arith, common_steps)
 
-sound_choice : {c : TailConfig} (b : Bool) (x y : Course) → IsTailSound c x.vars → IsTailSound c y.vars → IsTailSound c (if b then x else y).vars
+sound_choice : {c : TailConfig} (b : Bool) (x y : Course) → IsTailSound c x.vars → IsTailSound c y.vars
+    → IsTailSound c (if b then x else y).vars
 sound_choice true x y hx hy = hx
 sound_choice false x y hx hy = hy
 
@@ -120,7 +133,8 @@ silenced_sound sound = grind (arith, common_steps)
 
 pub tail_settle_sound : (c : TailConfig) (limit : ℕ) (s : Course) → IsTailSound c s.vars → IsTailSound c (tail.settle c limit s).vars
 unfolding tail.settle changes
-tail_settle_sound c limit s sound = sound_choice (has_come limit (deadline s.vars)) (changes c.discr (tail.silenced s.vars) s) s (silenced_sound sound) sound
+tail_settle_sound c limit s sound = sound_choice (has_come limit (deadline s.vars)) (changes c.discr (tail.silenced s.vars) s) s
+    (silenced_sound sound) sound
 
 kept_sound : {c : TailConfig} {eff : ℕ} {packet : Control} {v : Vars} → eff < moment_bound → IsSized packet → IsTailSound c v
     → IsTailSound c (record v { remote_state = packet.state; remote_mult = packet.mult; remote_tx = packet.min_tx; heard = Some eff })
@@ -129,7 +143,8 @@ kept_sound h sized sound = grind (arith, common_steps)
 up_sound : {c : TailConfig} {v : Vars} → IsSome v.heard → IsTailSound c v → IsTailSound c (enters Up v.diag v)
 up_sound there sound = grind (arith, common_steps)
 
-machine_sound : {c : TailConfig} (own received : State) {v : Vars} → IsSome v.heard → IsTailSound c v → IsTailSound c (receiving.machine own received v)
+machine_sound : {c : TailConfig} (own received : State) {v : Vars} → IsSome v.heard → IsTailSound c v
+    → IsTailSound c (receiving.machine own received v)
 machine_sound Down Up there sound = up_sound there sound
 machine_sound Up Down there sound = down_sound 3 (omega arith) sound
 machine_sound Up AdminDown there sound = down_sound 3 (omega arith) sound
@@ -144,7 +159,8 @@ accepted_sound {c} {eff} {packet} s h sized sound =
     let kept = kept_sound h sized sound in
     sound_choice (is_admin_down t.vars.state) t (receiving.moves_state c packet t) kept (machine_sound t.vars.state packet.state refl kept)
 
-pub received_sound : (c : TailConfig) (eff : ℕ) (raw : List ℕ) (s : Course) → eff < moment_bound → IsSized (fields_of raw) → IsTailSound c s.vars
+pub received_sound : (c : TailConfig) (eff : ℕ) (raw : List ℕ) (s : Course) → eff < moment_bound → IsSized (fields_of raw)
+    → IsTailSound c s.vars
     → IsTailSound c (receiving.received c eff raw s).vars
 unfolding receiving.received
 received_sound c eff raw s h sized sound =

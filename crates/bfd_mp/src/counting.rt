@@ -1,4 +1,4 @@
-//! How a head tells a changed interval: the count of packets with P that are still to be sent (RFC 8562 section 5.10).
+//! How a head reports a changed interval: the count of packets with P that are still to be sent (RFC 8562 section 5.10).
 ghost use Rattle.std.specs.Prelude.{◌≡◌};
 ghost use Rattle.bfd_mp.specs.Counting as counting;
 

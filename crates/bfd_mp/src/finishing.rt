@@ -22,7 +22,7 @@ pub fn drawn_anew(mark: &Mark, v: Vars) -> Vars
     drawn(true, mark, v)
 }
 
-/// A changed state or diagnostic is told immediately.
+/// A changed state or diagnostic is sent immediately.
 #[tactic(auto, unfolding(crate::specs::HeadFinish::extra))]
 fn extra(config: &HeadConfig, eff: u64, vars: &mut Vars, mark: &mut Mark, outs: &mut Outs)
     requires steady { IsHeadSteady vars.old }

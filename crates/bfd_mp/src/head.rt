@@ -140,7 +140,7 @@ impl Head {
     }
 
     /// Does what has come due by `limit`, in microseconds: the periodic packet, at most once, with P while packets that
-    /// tell a changed interval are to be sent (RFC 5880 section 6.8.7, RFC 8562 section 5.10). Adds at most one output.
+    /// report a changed interval are to be sent (RFC 5880 section 6.8.7, RFC 8562 section 5.10). Adds at most one output.
     pub fn settle(&mut self, limit: u64, eff: u64, mark: &mut Mark, outs: &mut Outs)
         requires eff { eff < moment_bound }
         requires room { 1 ≤ outs.old.spare }
@@ -156,7 +156,7 @@ impl Head {
 
     /// Does a command, or refuses it by the first of WrongKind, OutOfRange, WrongState and PollBusy that is true of it, and
     /// then changes nothing: a head knows `Disable`, `Enable`, `Tx` and `Mult` alone, and `Tx` is PollBusy while packets
-    /// that tell a changed interval are to be sent (RFC 8562 sections 5.9 and 5.10). Adds at most one output.
+    /// that report a changed interval are to be sent (RFC 8562 sections 5.9 and 5.10). Adds at most one output.
     pub fn command(
         &mut self,
         eff: u64,
@@ -173,11 +173,12 @@ impl Head {
         ensures spare { outs.old.spare ≤ outs.new.spare + 1 }
         ensures room { outs.new.room ≡ outs.old.room }
     {
+        // proof: names what the clauses speak of and the body does not use
         let _ = (eff, mark.moved);
         commands_head(&self.config, cmd, &mut self.vars, outs)
     }
 
-    /// Ends an event: a state or diagnostic that changed in it, and that no periodic packet of it told, is told by one
+    /// Ends an event: a state or diagnostic that changed in it, and that no periodic packet of it sent, is sent in one
     /// packet with P clear, and the next due tick is drawn (RFC 5880 section 6.8.7). Adds at most one output.
     pub fn finish(&mut self, eff: u64, mark: Mark, outs: &mut Outs)
         requires eff { eff < moment_bound }

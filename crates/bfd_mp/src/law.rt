@@ -19,8 +19,8 @@ ghost use Rattle.bfd_mp.specs.TailReceive.{IsSized, received};
 ghost use Rattle.bfd_mp.specs.Command.{head_commanded, tail_commanded};
 ghost use Rattle.bfd_rules.specs.Names.{AllNamed};
 
-/// Laws of a head, and no work. With sound variables a tick by which nothing is due leaves the variables as they are and puts
-/// nothing out, so a caller may hand a tick to the due sessions alone. A tick and a command keep variables sound. And each
+/// Laws of a head, and no work. With sound variables a tick by which nothing is due leaves the variables as they are and emits
+/// nothing, so a caller may hand a tick to the due sessions alone. A tick and a command keep variables sound. And each
 /// output of every part of an event names the head's discriminator.
 pub fn head_laws()
     ensures rests { (c : HeadConfig) (limit eff : ℕ) (v : Vars) (os : List Out) → IsHeadSound v
@@ -39,10 +39,10 @@ pub fn head_laws()
         → AllNamed c.discr (finish c eff s).outs }
 {}
 
-/// Laws of a tail, and no work. A tick by which the deadline hasn't come changes nothing and puts nothing out. A tick, a
-/// packet and a command keep variables sound. A tick forgets the last packet exactly where the deadline has come by its
+/// Laws of a tail, and no work. A tick by which the deadline hasn't come changes nothing and emits nothing. A tick, a
+/// packet and a command keep variables sound. A tick forgets the last packet if and only if the deadline has come by its
 /// limit. Each output of every part of an event names the tail's discriminator. And the end of every other session's event
-/// would do nothing here: no news is told by a packet, and no due tick is drawn.
+/// would do nothing here: no news is sent in a packet, and no due tick is drawn.
 pub fn tail_laws()
     ensures rests { (c : TailConfig) (limit : ℕ) (s : Course) → has_come limit (deadline s.vars) ≡ false
         → tail.settle c limit s ≡ s }

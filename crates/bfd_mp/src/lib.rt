@@ -2,11 +2,11 @@
 //! answers nothing.
 //!
 //! An event of a head or a tail is: `begin`; `settle`, which does what has come due; then for a tail a packet by `accept`,
-//! for both a command by `command`, or nothing; then `finish`. Moments are handed in, and what the session puts out is
+//! for both a command by `command`, or nothing; then `finish`. Moments are handed in, and what the session emits is
 //! appended to a list. No packet is an event of a head.
 //!
 //! A head is Up, or AdminDown between two commands. The tail's state machine (RFC 8562 section 5.5); an arrow names the
-//! received states that take it, and in AdminDown, which a command enters and leaves, no received state does anything:
+//! received states that cause it, and in AdminDown, which a command enters and leaves, no received state does anything:
 //!
 //! ```text
 //!                             +--+
@@ -22,7 +22,7 @@
 //!
 //! It stands on `bfd_rules`. It promises that each call of `Head` and of `Tail` is its part of an event by the definitions
 //! of `specs/`, for all sound variables, every packet with M set that passes the header tests and every command; that
-//! soundness is kept; that a tail puts no packet out; and that no call takes memory.
+//! soundness is kept; that a tail emits no packet; and that no call allocates memory.
 #![tactic(auto)]
 
 mod commanding;

@@ -28,6 +28,7 @@ fn keeps_fields(config: &TailConfig, eff: u64, packet: &Control, vars: &mut Vars
     ensures course { (m : Mark) (os : List Out)
         → course vars.new m os ≡ receive.keeps_fields eff packet.now (course vars.old m os) }
 {
+    // proof: the read brings the invariant
     let _ = config.discr;
     *vars = Vars {
         remote_state: packet.state,
@@ -51,7 +52,7 @@ fn machine(received: State, v: &Vars) -> Vars
     }
 }
 
-/// The state machine takes the received state.
+/// The state machine handles the received state.
 #[tactic(auto, unfolding(crate::specs::TailReceive::moves_state))]
 fn moves_state(config: &TailConfig, packet: &Control, vars: &mut Vars, outs: &mut Outs)
     requires sound { IsTailSound config.now vars.old }

@@ -25,7 +25,7 @@ use bfd_rules::{Cmd, Mark, Outs, Poll, Refusal, Vars, Verdict, begins, stamped};
 use std::marker::Model;
 
 /// A tail (RFC 8562 section 5.4, MultipointTail): its configuration, and its variables, which are sound also between the
-/// parts of an event. It puts changes of its state out, and no packet ever.
+/// parts of an event. It emits changes of its state, and never a packet.
 #[derive(Drop)]
 pub struct Tail {
     config: TailConfig,
@@ -143,6 +143,7 @@ impl Tail {
         ensures spare { outs.old.spare ≤ outs.new.spare + 1 }
         ensures room { outs.new.room ≡ outs.old.room }
     {
+        // proof: names what the clauses speak of and the body does not use
         let _ = (eff, mark.moved);
         settle(&self.config, limit, &mut self.vars, outs);
     }
@@ -171,6 +172,7 @@ impl Tail {
         ensures spare { outs.old.spare ≤ outs.new.spare + 1 }
         ensures room { outs.new.room ≡ outs.old.room }
     {
+        // proof: names what the clauses speak of and the body does not use
         let _ = (ttl, mark.moved);
         receives(&self.config, eff, raw, &mut self.vars, outs)
     }
@@ -193,11 +195,12 @@ impl Tail {
         ensures spare { outs.old.spare ≤ outs.new.spare + 1 }
         ensures room { outs.new.room ≡ outs.old.room }
     {
+        // proof: names what the clauses speak of and the body does not use
         let _ = (eff, mark.moved);
         commands_tail(&self.config, cmd, &mut self.vars, outs)
     }
 
-    /// Ends an event, with nothing: a tail may send nothing, so no packet tells of a change, and no due tick is drawn.
+    /// Ends an event, with nothing: a tail may send nothing, so no packet reports a change, and no due tick is drawn.
     pub fn finish(&mut self, eff: u64, mark: Mark, outs: &mut Outs)
         requires eff { eff < moment_bound }
         ensures same { self.new ≡ self.old }
@@ -205,6 +208,7 @@ impl Tail {
         ensures sound { IsTailSound self.new.config self.new.vars }
         ensures over { (limit : ℕ) → IsTailOver limit self.old.vars → IsTailOver limit self.new.vars }
     {
+        // proof: names what the clauses speak of and the body does not use
         let _ = (eff, mark.moved, self.vars.at, outs.spare());
     }
 }

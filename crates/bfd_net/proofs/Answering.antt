@@ -24,7 +24,8 @@ no_packet TimedOut = inl refl
 no_packet kind = inr refl
 
 -- what is heard came to the port and the address, and is no end
-pub heard_came : (made : Option Instant) (port : Port) (address : ℕ) (came : Result (ℕ × SocketAddr) Error) (buffer : List ℕ) (received : Received)
+pub heard_came : (made : Option Instant) (port : Port) (address : ℕ) (came : Result (ℕ × SocketAddr) Error) (buffer : List ℕ)
+    (received : Received)
     → IsHeard made port address came buffer received → CameTo made (Some (port, address)) received × (received ≢ Ended)
 heard_came made port address (Ok (count, socket.V4 from)) buffer (Got moment arrival) h =
     (rw h.0 (refl, refl, refl, refl, h.1), λ e. absurd (cc e))

@@ -91,7 +91,8 @@ IsGot made arrival Ended = ⊥
 
 -- the answer where so many bytes of the buffer came from there, or the receive failed
 abbrev pub IsHeard : Option Instant → Port → ℕ → Result (ℕ × SocketAddr) Error → List ℕ → Received → Type 0
-IsHeard made port address (Ok (count, socket.V4 from)) buffer received = IsGot made (arrival_from from port address (take count buffer)) received
+IsHeard made port address (Ok (count, socket.V4 from)) buffer received =
+    IsGot made (arrival_from from port address (take count buffer)) received
 IsHeard made port address (Ok (count, socket.V6 from)) buffer received = received ≡ Failed
 IsHeard made port address (Err error) buffer received = received ≡ answer_on_error (error_kind error)
 

@@ -1,4 +1,4 @@
-// The machine's clock.
+//! The machine's clock.
 ghost use Rattle.std.specs.Prelude.{◌≡◌, ◌-◌, ◌%◌, ◌<◌, ◌≤◌, IfSome, MatchOption};
 ghost use Rattle.std.specs.Duration.{as_nanos};
 ghost use Rattle.bfd_num.specs.Numbers.{greatest_tick, moment_bound};
@@ -11,7 +11,7 @@ use std::time::{Clock, Duration, Instant};
 /// Nanoseconds in a millisecond.
 const MILLISECOND: u32 = 1_000_000;
 
-/// The microseconds from one reading of the clock to a later one: None exactly where they are no moment.
+/// The microseconds from one reading of the clock to a later one: None if and only if they are no moment.
 fn moment_between(made: Instant, read: Instant) -> Option<Moment>
     ensures { MatchOption result (moment_bound ≤ micros_between made read) (λ m. m ≡ micros_between made read) }
 {
@@ -19,7 +19,7 @@ fn moment_between(made: Instant, read: Instant) -> Option<Moment>
     Moment::new(u64::try_from(micros).ok()?)
 }
 
-/// The milliseconds from one reading of the clock to a later one: None exactly where they are no tick.
+/// The milliseconds from one reading of the clock to a later one: None if and only if they are no tick.
 fn tick_between(made: Instant, read: Instant) -> Option<Tick>
     ensures { MatchOption result (greatest_tick < millis_between made read) (λ t. t ≡ millis_between made read) }
 {

@@ -1,4 +1,4 @@
-// Which port and address a link hears, by its number.
+//! Which port and address a link hears, by its number.
 ghost use Rattle.std.specs.Prelude.{◌≡◌, ◌<◌, ◌-◌, ◌%◌};
 ghost use Rattle.bfd_net.specs.Hearing.{port_at, port_number, loopback_of, is_local_addr};
 

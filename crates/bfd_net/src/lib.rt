@@ -1,8 +1,8 @@
 //! bfd_net: the outside over UDP and the machine's clock.
 //!
 //! [`UdpPorts`] opens links over UDP sockets on this machine's own addresses, 127.0.0.0/8, and [`ClockTicker`] ticks by the
-//! machine's clock. They are the trusted edge: they keep the contracts of `bfd_edge`'s traits, which speak of counts, and tell
-//! nothing of what a socket or a clock gave.
+//! machine's clock. They are the trusted edge: they keep the contracts of `bfd_edge`'s traits, which speak of counts, and
+//! report nothing of what a socket or a clock gave.
 //!
 //! Layers, lowest first: `clock` (the time since something was made), `hearing` (which port and address a link hears, by its
 //! number), `link`, `ports` and `ticker`.

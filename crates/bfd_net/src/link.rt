@@ -1,4 +1,4 @@
-// A link over a UDP socket.
+//! A link over a UDP socket.
 ghost use Rattle.std.specs.Prelude.{◌≡◌, ◌≢◌, ◌↔◌, ◌<◌, ◌≤◌, ◌-◌, ◌^◌, false, true, length, take, Some, is_some, IfOk, IfSome, Err};
 ghost use Rattle.bfd_edge.specs.Links.{after_receive, after_send, no_counts};
 ghost use Rattle.bfd_net.specs.Hearing.{is_local_addr};
@@ -27,7 +27,7 @@ const TRIES: u32 = 16;
 /// A link over a UDP socket, which [`crate::UdpPorts`] opens. Contracts see it as the record `UdpHeld`.
 ///
 /// It is Quiet where no packet came for 20 milliseconds, and Ended after 500 Quiets in a row. A link that only sends is Ended
-/// at once.
+/// immediately.
 #[derive(Drop)]
 pub struct UdpLink<R: Clock> {
     number: u32,
@@ -125,7 +125,7 @@ fn answer_to(kind: ErrorKind) -> Received
     }
 }
 
-/// A packet of so many bytes that came from there to this port and address. They are at the front of the buffer.
+/// A packet of so many bytes that came from there to this port and address. They are at the start of the buffer.
 fn kept<R: Clock>(
     count: usize,
     from: &SocketAddrV4,
@@ -187,7 +187,7 @@ fn hear<R: Clock>(
     heard(received, &buf, clock, alloc, port, address)
 }
 
-/// Where a packet goes: None exactly where that isn't one of this machine's own addresses.
+/// Where a packet goes: None if and only if that isn't one of this machine's own addresses.
 fn destination(datagram: &Datagram) -> Option<SocketAddrV4>
     ensures to { IfSome result (IsTo datagram.now) }
     ensures local { is_some result ≡ is_local_addr datagram.now.dst }
@@ -202,7 +202,7 @@ fn destination(datagram: &Datagram) -> Option<SocketAddrV4>
     Some(SocketAddrV4::new(ip, datagram.dport))
 }
 
-/// What came of a send of so many bytes.
+/// The result of a send of so many bytes.
 fn sent_as(sent: io::Result<usize>, long: usize) -> Result<(), Fault>
     ensures value { result ≡ sent_of sent long }
     ensures no_memory_taken { result ≢ Err Fault.Memory }

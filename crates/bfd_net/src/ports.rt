@@ -1,4 +1,4 @@
-// Ports over UDP.
+//! Ports over UDP.
 ghost use Rattle.std.specs.Prelude.{◌≡◌, ◌<◌, [], false, true, IfOk, IfSome, IsErrOf, IsNone};
 ghost use Rattle.bfd_edge.specs.Links.{IsNewLink, no_counts};
 ghost use Rattle.bfd_edge.specs.Ports.{after_open, after_shut};
@@ -25,8 +25,8 @@ const LOCALHOST: u32 = 0x7f00_0001;
 /// The last link: that of port Answer on 127.0.0.255.
 const LAST_LINK: u32 = 1275;
 
-/// Ports that open links over UDP on 127.0.0.0/8. They keep the numbers and the counts of the links that were shut. Contracts see them as the
-/// record `UdpPortsHeld`.
+/// Ports that open links over UDP on 127.0.0.0/8. They keep the numbers and the counts of the links that were shut. Contracts see them as
+/// the record `UdpPortsHeld`.
 #[derive(Drop)]
 pub struct UdpPorts<R: Net + Clock + Copy> {
     rt: R,
@@ -114,7 +114,7 @@ impl<R: Net + Clock + Copy> Ports for UdpPorts<R> {
 
     ghost told = { ports_told_of };
 
-    /// Opens the link of this number. `Failed` comes where its socket can't be had, as where another has its port, and for a
+    /// Opens the link of this number. `Failed` comes where its socket isn't available, as where another has its port, and for a
     /// number above 1,275, for which 127.0.0.0/24 has no address.
     fn open(&mut self, number: u32) -> Result<UdpLink<R>, Fault>
         requires { (ports_told_of self.old).opened number ≡ false }

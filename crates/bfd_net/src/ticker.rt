@@ -1,4 +1,4 @@
-// A ticker by the machine's clock.
+//! A ticker by the machine's clock.
 ghost use Rattle.std.specs.Prelude.{◌≡◌, ◌≢◌, false, None};
 ghost use Rattle.bfd_edge.specs.Tickers.{after_next, IsInOrder};
 
@@ -7,7 +7,7 @@ use bfd_edge::{Next, Ticker};
 use std::marker::Model;
 use std::time::Clock;
 
-/// A ticker that waits for each next millisecond of the machine's clock. It is never Ended. Contracts see it as what it tells.
+/// A ticker that waits for each next millisecond of the machine's clock. It is never Ended. Contracts see it as what it reports.
 #[derive(Drop)]
 pub struct ClockTicker<R: Clock> {
     clock: SinceMade<R>,

@@ -31,7 +31,7 @@ impl Model for Moment {
 }
 
 impl Moment {
-    /// The moment of this many microseconds: None exactly where they are 2^60 or more.
+    /// The moment of this many microseconds: None if and only if they are 2^60 or more.
     pub fn new(us: u64) -> Option<Moment>
         ensures value { MatchOption result (moment_bound ≤ us) (λ m. m ≡ us) }
         ensures fits { IfSome result (λ m. m < moment_bound) }
@@ -72,7 +72,7 @@ impl Model for Tick {
 }
 
 impl Tick {
-    /// The tick of this number: None exactly where it is above `GREATEST_TICK`.
+    /// The tick of this number: None if and only if it is above `GREATEST_TICK`.
     pub fn new(t: u64) -> Option<Tick>
         ensures value { MatchOption result (greatest_tick < t) (λ tick. tick ≡ t) }
         ensures fits { IfSome result (λ tick. tick ≤ greatest_tick) }

@@ -1,10 +1,11 @@
 //! A counter that contracts see as a number, and of which the running program keeps nothing.
 ghost use Rattle.std.specs.Prelude.{◌≡◌, ◌+◌, ◌<◌};
+ghost use Rattle.bfd_num.specs.Counting.{IsBlankOf};
 
 use std::marker::Model;
 use std::sync::ledger::{Blank, Book, Ledger, Share};
 
-/// How many steps were taken. It takes no bytes, and only `tick` changes it.
+/// How many steps were taken. It has no bytes, and only `tick` changes it.
 #[derive(Drop)]
 pub struct Steps<L: Ledger> {
     book: Book<L>,
@@ -24,9 +25,7 @@ impl<L: Ledger> Model for Steps<L> {
 impl<L: Ledger> Steps<L> {
     /// No step yet. The blank is the one of `L`, as `Blank::new(1)` is for a ledger that the caller picks.
     pub fn new(blank: Blank) -> Steps<L>
-        requires name { blank.name ≡ L.name }
-        requires parts { blank.parts ≡ L.parts }
-        requires some { 0 < blank.parts }
+        requires blank { IsBlankOf L.name L.parts blank.name blank.parts }
         ensures { result ≡ 0 }
     {
         let (book, share) = blank.open();

@@ -1,4 +1,4 @@
-//! The draws that the jitter of periodic packets is made of.
+//! The draws that the jitter of periodic packets is computed from.
 ghost use Rattle.std.specs.Prelude.{◌≡◌};
 ghost use Rattle.bfd_num.specs.Numbers as numbers;
 

@@ -2,7 +2,7 @@
 ghost use Rattle.std.specs.Prelude.{◌≡◌};
 ghost use Rattle.bfd_num.specs.Due.{has_come, sooner};
 
-/// Whether a due tick has come at the tick `t`: it is there, and at most `t`. Of moments it says the same.
+/// Whether a due tick has come at the tick `t`: it is present, and at most `t`. Of moments it says the same.
 pub fn has_come(t: u64, due: Option<u64>) -> bool
     ensures { result ≡ has_come t due }
 {

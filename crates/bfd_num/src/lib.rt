@@ -1,8 +1,8 @@
 //! The numbers that every other crate counts in: moments in microseconds, ticks in milliseconds, which of them have
-//! come, the draws that jitter is made of, and a counter of steps that contracts alone can read.
+//! come, the draws that jitter is computed from, and a counter of steps that contracts alone can read.
 //!
-//! It stands on std alone, takes no memory and reads no clock. It promises that a `Moment` or a `Tick` is never too
-//! large for the sums that are made of it, that rounding between the two is exact, and that `Steps` costs nothing at
+//! It stands on std alone, allocates no memory and reads no clock. It promises that a `Moment` or a `Tick` is never too
+//! large for the sums that are built from it, that rounding between the two is exact, and that `Steps` costs nothing at
 //! run time.
 #![tactic(auto)]
 

@@ -1,5 +1,6 @@
 -- A failure that another function finds leaves nothing due that settling had done.
-use Rattle.std.proofs.Common.{◌≡◌, ◌<◌, ◌≤◌, ◌+◌, ◌*◌, max, ℕ, Bool, true, false, refl, ◌∙◌, Option, None, Some, IsSome, option_map, arith, if◌then◌else◌}
+use Rattle.std.proofs.Common.{◌≡◌, ◌<◌, ◌≤◌, ◌+◌, ◌*◌, max, ℕ, Bool, true, false, refl, ◌∙◌, Option, None, Some, IsSome, option_map, arith}
+use Rattle.std.proofs.Common.{if◌then◌else◌}
 use Rattle.std.proofs.lemmas.Grind.{common_steps}
 use Rattle.std.proofs.lemmas.Bool.Decides.{nat_tests}
 use Rattle.std.specs.Prelude.{nat_le}
@@ -35,9 +36,25 @@ demand_kept : (eff : ℕ) (v x : Vars) (here : Bool) → demand_here v ≡ here 
     → Kept eff v (demand_renewed eff v x)
 unfolding demand_renewed
 demand_kept eff v x true is down rx mult tx heard seq base =
-    rw (is, demand_down x down) (record { state = down; used_rx = rx; mult = mult; tx = tx; heard = rw is (cc); seq_heard = seq; base = base })
+    rw (is, demand_down x down) (record {
+      state = down;
+      used_rx = rx;
+      mult = mult;
+      tx = tx;
+      heard = rw is (cc);
+      seq_heard = seq;
+      base = base;
+    })
 demand_kept eff v x false is down rx mult tx heard seq base =
-    rw (is, demand_down x down) (record { state = down; used_rx = rx; mult = mult; tx = tx; heard = rw is heard; seq_heard = seq; base = base })
+    rw (is, demand_down x down) (record {
+      state = down;
+      used_rx = rx;
+      mult = mult;
+      tx = tx;
+      heard = rw is heard;
+      seq_heard = seq;
+      base = base;
+    })
 
 -- the Required Min RX in use stays
 used_stays : {v : Vars} (x : Vars) → IsRenewed v → x.rx ≡ v.rx → x.used_rx ≡ v.used_rx → (is_idle x.poll ≡ true → is_idle v.poll ≡ true)
@@ -56,7 +73,8 @@ used_kept eff {v} x h down rx used idle mult tx heard seq base =
 poll_kept : (eff diag : ℕ) {v : Vars} (b : Bool) → IsRenewed v
     → Kept eff v (demand_renewed eff v (used_renewed (if b then failed diag v else record (failed diag v) { poll = Wanted })))
 poll_kept eff diag {v} true h = used_kept eff (failed diag v) h refl refl refl (λ i. i) refl refl refl refl refl
-poll_kept eff diag {v} false h = used_kept eff (record (failed diag v) { poll = Wanted }) h refl refl refl (λ i. cc) refl refl refl refl refl
+poll_kept eff diag {v} false h = used_kept eff (record (failed diag v) { poll = Wanted }) h refl refl refl (λ i. cc) refl refl refl refl
+    refl
 
 kept : (eff diag : ℕ) {v : Vars} → IsRenewed v → Kept eff v (renewed eff v (failed diag v))
 unfolding renewed poll_renewed
@@ -84,7 +102,8 @@ late c limit eff v w reached steady kept h =
     let shown : deadline w ≡ option_map (λ h. h + detection_time v) (if demand_here v then option_map (λ _. eff) v.heard else v.heard) =
     cc (deadline_at v w kept.state same) in
     cc (late_by limit eff (detection_time v) (demand_here v) v.heard v.heard
-    (λ there. wait_later (max v.used_rx v.remote_tx) reached (steady.peer.heard_mult there) (omega (arith, steady.plain.rx_least, steady.renewed.rx_at_least)))
+    (λ there. wait_later (max v.used_rx v.remote_tx) reached (steady.peer.heard_mult there)
+    (omega (arith, steady.plain.rx_least, steady.renewed.rx_at_least)))
     (λ off. let was : deadline v ≡ option_map (λ h. h + detection_time v) v.heard = rw off refl in
     cc))
 

@@ -1,5 +1,6 @@
 -- Where a rule changes neither an interval nor whether Demand mode is active here, there is nothing to renew.
-use Rattle.std.proofs.Common.{◌≡◌, ◌≤◌, ◌++◌, min, max, ℕ, Bool, true, false, List, [], refl, sym, ap, ◌∙◌, arith, append-nil, if◌then◌else◌, Option, Some}
+use Rattle.std.proofs.Common.{◌≡◌, ◌≤◌, ◌++◌, min, max, ℕ, Bool, true, false, List, [], refl, sym, ap, ◌∙◌, arith, append-nil}
+use Rattle.std.proofs.Common.{if◌then◌else◌, Option, Some}
 use Rattle.std.proofs.lemmas.Grind.{common_steps}
 use Rattle.std.proofs.lemmas.Bool.{eq-eqb}
 use Rattle.bfd_rules.specs.declared.outputs.Out.{Out}
@@ -30,7 +31,8 @@ rx_stands false settled least = grind (arith, common_steps)
 
 used_stands : {v : Vars} → IsRenewed v → used_renewed v ≡ v
 unfolding used_renewed
-used_stands {v} h = ap (λ n. record v { used_tx = n; used_rx = if is_idle v.poll then v.rx else max v.used_rx v.rx }) (tx_stands _ h.settled_tx h.tx_at_most)
+used_stands {v} h = ap (λ n. record v { used_tx = n; used_rx = if is_idle v.poll then v.rx else max v.used_rx v.rx })
+    (tx_stands _ h.settled_tx h.tx_at_most)
     ∙ ap (λ n. record v { used_tx = v.used_tx; used_rx = n }) (rx_stands _ h.settled_rx h.rx_at_least)
 
 both_stand : (v x y : Vars) (a b : Bool) → b ≡ a → (if a then (if b then v else x) else (if b then y else v)) ≡ v
@@ -43,7 +45,8 @@ demand_stands : (eff : ℕ) (before v : Vars) → demand_here v ≡ demand_here 
 unfolding demand_renewed
 demand_stands eff before v e = both_stand v _ _ _ _ e
 
-renewed_idle : (eff : ℕ) (before : Vars) {v : Vars} → IsRenewed v → adv_tx v ≡ adv_tx before → v.rx ≡ before.rx → demand_here v ≡ demand_here before → renewed eff before v ≡ v
+renewed_idle : (eff : ℕ) (before : Vars) {v : Vars} → IsRenewed v → adv_tx v ≡ adv_tx before → v.rx ≡ before.rx
+    → demand_here v ≡ demand_here before → renewed eff before v ≡ v
 unfolding renewed
 renewed_idle eff before {v} h adv rx demand = cc (poll_stands before v adv rx, used_stands h, demand_stands eff before v demand)
 
@@ -60,8 +63,10 @@ unfolding moves
 moves_none discr eff s h = cc (renewed_idle eff s.vars h refl refl refl, changes_none discr s)
 
 -- nor does a periodic packet leave anything to renew
-pub renews_told : (eff : ℕ) (seq : SeqState) (v : Vars) (m : Mark) (os : List Out) → IsRenewed (record v { seq = seq; poll = poll_sent eff v.poll; base = eff })
-    → course (record v { seq = seq; poll = poll_sent eff v.poll; base = eff }) m os ≡ renews eff (record v { seq = seq; poll = poll_sent eff v.poll; base = eff }) (course v m os)
+pub renews_told : (eff : ℕ) (seq : SeqState) (v : Vars) (m : Mark) (os : List Out)
+    → IsRenewed (record v { seq = seq; poll = poll_sent eff v.poll; base = eff })
+    → course (record v { seq = seq; poll = poll_sent eff v.poll; base = eff }) m os
+    ≡ renews eff (record v { seq = seq; poll = poll_sent eff v.poll; base = eff }) (course v m os)
 unfolding renews
 renews_told eff seq v m os h = cc (renewed_idle eff v h refl refl refl)
 

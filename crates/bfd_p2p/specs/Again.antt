@@ -22,6 +22,7 @@ pub record IsAgain (c : Config) (eff ttl : ℕ) (raw : List ℕ) (v : Vars) : Ty
   pub received : (m : Mark) (os : List Out) → received c eff ttl raw (course (stamped (Some eff) v) m os) ≡ course (heard_again eff v) m os
   pub verdict : verdict_on c ttl raw (stamped (Some eff) v) ≡ Accepted
   pub finished : (os : List Out)
-      → finish c eff (course (heard_again eff v) (begins (stamped (Some eff) v)) os) ≡ course (heard_again eff v) (begins (stamped (Some eff) v)) os
+      → finish c eff (course (heard_again eff v) (begins (stamped (Some eff) v)) os)
+      ≡ course (heard_again eff v) (begins (stamped (Some eff) v)) os
   pub sound : IsSound c (heard_again eff v)
   pub echoless : v.echo_every ≡ 0

@@ -1,5 +1,6 @@
 -- Commands (RFC 5880 sections 6.8.10 to 6.8.17): each is refused by the first test of a list, or done.
-use Rattle.std.specs.Prelude.{ℕ, ◌==◌, ◌&&◌, ◌||◌, nat_le, not, Bool, false, if◌then◌else◌, Option, None, Some, is_some, is_none, unwrap_or, [], ◌∷◌, find}
+use Rattle.std.specs.Prelude.{ℕ, ◌==◌, ◌&&◌, ◌||◌, nat_le, not, Bool, false, if◌then◌else◌, Option, None, Some, is_some, is_none, unwrap_or}
+use Rattle.std.specs.Prelude.{[], ◌∷◌, find}
 use Rattle.bfd_packet.specs.declared.control.State.TheVariants.{AdminDown, Down}
 use Rattle.bfd_packet.specs.KeyChain.{KeyChain, place_of}
 use Rattle.bfd_rules.specs.declared.config.Config.{Config}

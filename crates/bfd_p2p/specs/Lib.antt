@@ -8,3 +8,4 @@ pub mod Finish
 pub mod Machine
 pub mod Over
 pub mod Again
+pub mod Beat

@@ -1,6 +1,7 @@
 -- The reception of a control packet after settling (RFC 5880 section 6.8.6): the session's discard tests, then its
 -- rules in order.
-use Rattle.std.specs.Prelude.{ℕ, ◌<◌, ◌^◌, ◌==◌, ◌&&◌, not, Bool, true, false, if◌then◌else◌, Option, None, Some, is_some, is_none, Result, Ok, Err, List, [], ◌∷◌, take, find}
+use Rattle.std.specs.Prelude.{ℕ, ◌<◌, ◌^◌, ◌==◌, ◌&&◌, not, Bool, true, false, if◌then◌else◌, Option, None, Some, is_some, is_none, Result}
+use Rattle.std.specs.Prelude.{Ok, Err, List, [], ◌∷◌, take, find}
 use Rattle.bfd_packet.specs.declared.control.State.{State}
 use Rattle.bfd_packet.specs.declared.control.State.TheVariants.{AdminDown, Down, Init, Up}
 use Rattle.bfd_packet.specs.declared.control.Control.{Control}

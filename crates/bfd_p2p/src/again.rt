@@ -35,7 +35,7 @@ fn is_calm(config: &Config, v: &Vars) -> bool
         && may_send(config.active, v)
 }
 
-/// The packet is in Up, tells what else the session knows of its peer, and has P and F clear.
+/// The packet is in Up, repeats what else the session knows of its peer, and has P and F clear.
 fn is_repeated(packet: &Control, v: &Vars) -> bool
     ensures up { result ≡ true → packet.now.state ≡ Up }
     ensures poll { result ≡ true → packet.now.poll ≡ false }
@@ -72,7 +72,6 @@ fn rests(eff: u64, config: &Config, v: &Vars) -> bool
     ensures seq_late { result ≡ true → due.has_come eff (seq_deadline_of v.now) ≡ false }
     ensures due_later { result ≡ true → due.has_come (tick_of eff) v.now.tx_due ≡ false }
 {
-    let _ = config.discr;
     !has_come(eff, deadline(v))
         && !has_come(eff, seq_deadline(v))
         && !has_come(floor_tick(eff), v.tx_due)
@@ -106,7 +105,6 @@ pub fn hears(
     ensures moment { result ≡ true → vars.new ≡ heard_again eff vars.old }
     ensures rests { result ≡ false → vars.new ≡ vars.old }
 {
-    let _ = raw.len();
     if !is_calm(config, vars) || !is_repeated(packet, vars) {
         return false;
     }

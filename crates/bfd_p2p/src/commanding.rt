@@ -110,7 +110,7 @@ fn path_done(n: u8, v: &Vars) -> Vars
     }
 }
 
-/// `Demand` (sections 6.6 and 6.8.14): a change in Up wants a poll.
+/// `Demand` (sections 6.6 and 6.8.14): a change in Up needs a poll.
 fn demand_done(on: bool, v: &Vars) -> Vars
     ensures value { result ≡ commands.demand_done on v.now }
     ensures plain { (c : ConfigOf) → IsPlain c v.now → IsPlain c result }

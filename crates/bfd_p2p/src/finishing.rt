@@ -11,7 +11,7 @@ ghost use Rattle.bfd_p2p.specs.Over.{IsSettled};
 use crate::transmitting::transmits;
 use bfd_rules::{Config, Mark, Outs, Vars, draw, is_untold};
 
-/// A changed state or diagnostic is told immediately, unless a packet with F has told it or none may be sent.
+/// A changed state or diagnostic is sent immediately, unless a packet with F has sent it or none may be sent.
 #[tactic(auto, unfolding(crate::specs::Finish::extra))]
 fn extra(config: &Config, eff: u64, vars: &mut Vars, mark: &mut Mark, outs: &mut Outs)
     requires steady { IsSteady config.now vars.old }

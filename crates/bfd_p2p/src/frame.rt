@@ -1,4 +1,4 @@
-//! How one rule changes a session: what it makes of the variables is renewed, and a new state is told.
+//! How one rule changes a session: what it makes of the variables is renewed, and a new state is emitted.
 ghost use Rattle.std.specs.Prelude.{◌≡◌, ◌<◌, ◌≤◌, ◌+◌, is_some};
 ghost use Rattle.bfd_num.specs.Numbers.{moment_bound};
 ghost use Rattle.bfd_rules.specs.declared.config.Config.{Config as ConfigOf};
@@ -27,6 +27,7 @@ pub fn renews(config: &Config, eff: u64, after: Vars, vars: &mut Vars)
         → demand_here after ≡ demand_here vars.old → vars.new ≡ after }
     ensures course { (m : Mark) (os : List Out) → course vars.new m os ≡ frame.renews eff after (course vars.old m os) }
 {
+    // proof: the read brings the invariant
     let _ = config.discr;
     let mut after = after;
     renew(eff, vars, &mut after);

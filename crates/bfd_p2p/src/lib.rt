@@ -4,7 +4,7 @@
 //! An event of a session is: `begin`; `settle`, which does what has come due; then a packet by `accept`, a command by
 //! `command`, or nothing; then `finish`. Moments are handed in, and what the session sends is appended to a list.
 //!
-//! The state machine (RFC 5880 section 6.2); an arrow names the received states that take it:
+//! The state machine (RFC 5880 section 6.2); an arrow names the received states that cause it:
 //!
 //! ```text
 //!                              +--+
@@ -29,10 +29,11 @@
 //!
 //! It stands on `bfd_rules` and `bfd_auth`. It promises that each call is its part of an event by the definitions of
 //! `specs/`, for all sound variables, every packet that passes the header tests, every TTL and every command; that
-//! soundness is kept; and that no call takes memory.
+//! soundness is kept; and that no call allocates memory.
 #![tactic(auto)]
 
 mod again;
+mod beating;
 mod commanding;
 mod finishing;
 mod frame;

@@ -17,11 +17,13 @@ ghost use Rattle.bfd_p2p.specs.Command as command;
 ghost use Rattle.bfd_p2p.specs.Finish as finishing;
 ghost use Rattle.bfd_p2p.specs.Frame.{moves as moves_of};
 ghost use Rattle.bfd_p2p.specs.Again.{IsAgain, heard_again};
+ghost use Rattle.bfd_p2p.specs.Beat.{IsBeat, redrawn_at};
 ghost use Rattle.bfd_p2p.specs.Over.{IsBegun, IsSettled, IsOver};
 ghost use Rattle.bfd_p2p.specs.Port.{port_of};
 ghost use Rattle.bfd_p2p.specs.Machine as machine;
 
 use crate::again::hears;
+use crate::beating::beats;
 use crate::commanding::commands;
 use crate::finishing::finish;
 use crate::frame::moves;
@@ -130,7 +132,7 @@ fn stamps(own: Option<u64>, v: &mut Vars)
 
 impl P2p {
     /// A session with the variables of the start (RFC 5880 section 6.8.1), and the first due tick drawn where it may
-    /// send at once. The configuration is within its ranges.
+    /// send immediately. The configuration is within its ranges.
     pub fn make(config: Config) -> P2p
         requires { IsConfig config }
         ensures config { result.config ≡ config }
@@ -200,6 +202,23 @@ impl P2p {
         hears(&self.config, eff, ttl, &packet, raw, &mut self.vars)
     }
 
+    /// Does a whole tick by which a periodic packet is due and nothing else, as `begin`, `settle` and `finish` do it: then the answer is
+    /// true. Else nothing is done. The limit and the effective moment are in microseconds. Adds at most one output.
+    pub fn beats(&mut self, limit: u64, eff: u64, outs: &mut Outs) -> bool
+        requires sound { IsSound self.old.config self.old.vars }
+        requires eff { eff < moment_bound }
+        requires room { 1 ≤ outs.old.spare }
+        ensures config { self.new.config ≡ self.old.config }
+        ensures beat { result ≡ true → IsBeat self.old.config limit eff self.old.vars outs.old.items outs.new.items }
+        ensures moment { result ≡ true → self.new.vars ≡ redrawn_at eff self.old.vars }
+        ensures rests { result ≡ false → self.new ≡ self.old }
+        ensures rests_outs { result ≡ false → outs.new ≡ outs.old }
+        ensures spare { outs.old.spare ≤ outs.new.spare + 1 }
+        ensures room { outs.new.room ≡ outs.old.room }
+    {
+        beats(&self.config, limit, eff, &mut self.vars, outs)
+    }
+
     /// Receives a packet that came with this TTL (RFC 5880 section 6.8.6). `raw` passes the header tests of the
     /// session's port and has M clear. The verdict is the first of the tests Ttl to AdminDown that it fails; one of
     /// the tests Ttl to AuthDigest leaves all as it was, AdminDown comes after the packet's fields were kept. Adds at
@@ -251,6 +270,7 @@ impl P2p {
         ensures spare { outs.old.spare ≤ outs.new.spare + 1 }
         ensures room { outs.new.room ≡ outs.old.room }
     {
+        // proof: names what the clauses speak of and the body does not use
         let _ = mark.moved;
         commands(&self.config, eff, cmd, &mut self.vars, outs)
     }
@@ -271,11 +291,12 @@ impl P2p {
         ensures spare { outs.old.spare ≤ outs.new.spare + 1 }
         ensures room { outs.new.room ≡ outs.old.room }
     {
+        // proof: names what the clauses speak of and the body does not use
         let _ = mark.moved;
         fails(&self.config, eff, diag, &mut self.vars, outs);
     }
 
-    /// Ends an event: a state or diagnostic that changed in it, and that no periodic packet of it told, is told by one
+    /// Ends an event: a state or diagnostic that changed in it, and that no periodic packet of it sent, is sent in one
     /// packet where one may be sent, and the next due tick is drawn (RFC 5880 section 6.8.7). Adds at most one output,
     /// and none where a packet with F was sent in the event.
     pub fn finish(&mut self, eff: u64, mark: Mark, outs: &mut Outs)

@@ -255,7 +255,7 @@ fn moves_by(config: &Config, eff: u64, received: State, vars: &mut Vars, outs: &
     moves(config, eff, after, vars, outs);
 }
 
-/// The state machine takes the received state. Where it leaves the state there is nothing to renew, and nothing to tell.
+/// The state machine handles the received state. Where it leaves the state there is nothing to renew, and nothing to emit.
 #[tactic(auto, using(crate::proofs::Idle::moves_none), unfolding(crate::specs::Receive::moves_state))]
 fn moves_state(config: &Config, eff: u64, packet: &Control, vars: &mut Vars, outs: &mut Outs)
     requires steady { IsSteady config.now vars.old }

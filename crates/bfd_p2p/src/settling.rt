@@ -94,7 +94,7 @@ fn sequence(config: &Config, limit: u64, eff: u64, vars: &mut Vars)
     }
 }
 
-/// A Poll Sequence that is wanted begins with this packet.
+/// A Poll Sequence that is requested begins with this packet.
 fn poll_sent(eff: u64, poll: Poll) -> Poll
     ensures { result ≡ settling.poll_sent eff poll }
 {
@@ -106,7 +106,7 @@ fn poll_sent(eff: u64, poll: Poll) -> Poll
 
 /// What a periodic packet makes of the variables. It leaves nothing to renew.
 #[tactic(auto, using(crate::proofs::Later::wait_later, crate::proofs::Idle::renews_told))]
-fn told(eff: u64, seq: SeqState, v: &mut Vars)
+pub fn told(eff: u64, seq: SeqState, v: &mut Vars)
     requires eff { eff < moment_bound }
     requires mult { 0 < v.old.mult }
     requires interval { 10000 ≤ v.old.used_tx }

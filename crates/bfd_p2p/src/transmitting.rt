@@ -1,5 +1,5 @@
 //! The control packet that a session transmits (RFC 5880 section 6.8.7, RFC 5881 section 4, RFC 5883 section 5).
-ghost use Rattle.std.specs.Prelude.{◌≡◌, ◌<◌, ◌≤◌, ◌+◌, List};
+ghost use Rattle.std.specs.Prelude.{◌≡◌, ◌<◌, ◌≤◌, ◌+◌, None, Some, length};
 ghost use Rattle.bfd_rules.specs.declared.variables.Mark.{Mark};
 ghost use Rattle.bfd_rules.specs.EventFrame.{course};
 ghost use Rattle.bfd_rules.specs.Sound.{IsPlace};
@@ -10,6 +10,7 @@ use bfd_packet::{AuthBytes, Control, Datagram, Keys, SOURCE_PORT, SeqState, Wire
 use bfd_rules::{Config, Outs, Role, Vars, adv_tx, demand_here, sends};
 
 /// The fields of a transmitted packet, with P and F as the rule that sends it says.
+#[inline]
 fn packet_of(config: &Config, v: &Vars, poll: bool, fin: bool) -> Control
     ensures { result ≡ transmit.packet_of config.now v.now poll fin }
 {
@@ -32,19 +33,6 @@ fn packet_of(config: &Config, v: &Vars, poll: bool, fin: bool) -> Control
     }
 }
 
-/// The packet's bytes and the sequence state after it: plain, or sealed with the key that is sent with.
-fn sealed(keys: &Option<Keys>, sending: u8, seq: &SeqState, packet: &Control) -> (Wire, SeqState)
-    requires diag { packet.now.diag < 32 }
-    requires place { IsPlace keys.now sending }
-    ensures bytes { result.0 ≡ transmit.packet_bytes keys.now sending seq.now packet.now }
-    ensures seq { result.1 ≡ transmit.seq_after keys.now seq.now }
-{
-    match keys {
-        Some(keys) => seal(keys, sending, seq, packet),
-        None => (write(packet, &AuthBytes::default()), *seq),
-    }
-}
-
 /// The destination port of control packets.
 fn port_number(role: Role) -> u16
     ensures { result ≡ transmit.port_number role }
@@ -55,8 +43,64 @@ fn port_number(role: Role) -> u16
     }
 }
 
+/// The bytes on their way to the peer.
+fn datagram_of(config: &Config, bytes: Wire) -> Datagram
+    ensures { result ≡ transmit.datagram_of config.now bytes }
+{
+    Datagram {
+        iface: config.iface,
+        src: config.local,
+        sport: SOURCE_PORT,
+        dst: config.remote,
+        dport: port_number(config.role),
+        ttl: 255,
+        bytes,
+    }
+}
+
+/// Transmits a packet without authentication.
+#[tactic(auto, using(crate::proofs::Sending::sends_plain))]
+pub fn transmits_plain(config: &Config, poll: bool, fin: bool, vars: &Vars, outs: &mut Outs)
+    requires diag { vars.now.diag < 32 }
+    requires plain { config.now.keys ≡ None }
+    requires room { 0 < outs.old.spare }
+    ensures course { (m : Mark) → course vars.now m outs.new.items
+        ≡ transmit.transmits config.now poll fin (course vars.now m outs.old.items) }
+    ensures spare { outs.old.spare ≤ outs.new.spare + 1 }
+    ensures room { outs.new.room ≡ outs.old.room }
+{
+    let bytes = write(&packet_of(config, vars, poll, fin), &AuthBytes::default());
+    sends(config.discr, datagram_of(config, bytes), outs);
+}
+
+/// Transmits a packet that is sealed with the key that is sent with, and says what the sequence state is after it. (Apart from
+/// `transmits`, so that a session without keys makes no room for a section.)
+#[cold]
+#[inline(never)]
+fn transmits_sealed(
+    config: &Config,
+    keys: &Keys,
+    poll: bool,
+    fin: bool,
+    vars: &Vars,
+    outs: &mut Outs,
+) -> SeqState
+    requires diag { vars.now.diag < 32 }
+    requires keys { config.now.keys ≡ Some keys.now }
+    requires place { vars.now.sending < length keys.now.list }
+    requires room { 0 < outs.old.spare }
+    ensures course { (m : Mark) → course (record vars.now { seq = result }) m outs.new.items
+        ≡ transmit.transmits config.now poll fin (course vars.now m outs.old.items) }
+    ensures spare { outs.old.spare ≤ outs.new.spare + 1 }
+    ensures room { outs.new.room ≡ outs.old.room }
+{
+    let packet = packet_of(config, vars, poll, fin);
+    let (bytes, seq) = seal(keys, vars.sending, &vars.seq, &packet);
+    sends(config.discr, datagram_of(config, bytes), outs);
+    seq
+}
+
 /// Transmits a packet, and says what the sequence state is after it.
-#[tactic(auto, unfolding(crate::specs::Transmit::transmits))]
 pub fn transmits(config: &Config, poll: bool, fin: bool, vars: &Vars, outs: &mut Outs) -> SeqState
     requires diag { vars.now.diag < 32 }
     requires place { IsPlace config.now.keys vars.now.sending }
@@ -66,17 +110,11 @@ pub fn transmits(config: &Config, poll: bool, fin: bool, vars: &Vars, outs: &mut
     ensures spare { outs.old.spare ≤ outs.new.spare + 1 }
     ensures room { outs.new.room ≡ outs.old.room }
 {
-    let packet = packet_of(config, vars, poll, fin);
-    let (bytes, seq) = sealed(&config.keys, vars.sending, &vars.seq, &packet);
-    let datagram = Datagram {
-        iface: config.iface,
-        src: config.local,
-        sport: SOURCE_PORT,
-        dst: config.remote,
-        dport: port_number(config.role),
-        ttl: 255,
-        bytes,
-    };
-    sends(config.discr, datagram, outs);
-    seq
+    match &config.keys {
+        Some(keys) => transmits_sealed(config, keys, poll, fin, vars, outs),
+        None => {
+            transmits_plain(config, poll, fin, vars, outs);
+            vars.seq
+        }
+    }
 }

@@ -1,5 +1,6 @@
 -- A list of keys that gains one.
-use Rattle.std.proofs.Common.{◌≡◌, ◌∙◌, ◌<◌, ◌++◌, List, [], ◌∷◌, ℕ, true, false, not, IsTrue, zero, suc, Some, length, refl, sym, subst, arith, length-append, nat_eq}
+use Rattle.std.proofs.Common.{◌≡◌, ◌∙◌, ◌<◌, ◌++◌, List, [], ◌∷◌, ℕ, true, false, not, IsTrue, zero, suc, Some, length, refl, sym, subst}
+use Rattle.std.proofs.Common.{arith, length-append, nat_eq}
 use Rattle.std.proofs.lemmas.Bool.{and_parts, or_parts}
 use Rattle.std.proofs.lemmas.List.Folds.{list_any-append, list_all-append}
 use Rattle.bfd_packet.specs.declared.keys.Key.{Key}
@@ -10,7 +11,8 @@ eq_id-comm : (a b : ℕ) → nat_eq a b ≡ nat_eq b a
 eq_id-comm a b = grind (arith)
 
 -- a key with a new id leaves the ids distinct
-distinct_ids-push : (keys : List Key) (key : Key) → distinct_ids keys ≡ true → has_id key.id keys ≡ false → distinct_ids (keys ++ key ∷ []) ≡ true
+distinct_ids-push : (keys : List Key) (key : Key) → distinct_ids keys ≡ true → has_id key.id keys ≡ false
+    → distinct_ids (keys ++ key ∷ []) ≡ true
 distinct_ids-push [] key d h = refl
 distinct_ids-push (first ∷ keys) key d h =
     let old = and_parts (not (has_id first.id keys)) (distinct_ids keys) d in
@@ -19,7 +21,8 @@ distinct_ids-push (first ∷ keys) key d h =
     rw (seen, eq_id-comm first.id key.id ∙ new.0, distinct_ids-push keys key old.1 new.1) (grind (arith, old.0))
 
 -- a list that is no list of four and has no such id may gain a key that fits
-stays_key_chain : (keys : KeyChain) (key : Key) → IsKeyChain keys → length keys.list < 4 → has_id key.id keys.list ≡ false → IsTrue (fits_kind keys.kind key.secret) → IsKeyChain (record keys { list = keys.list ++ key ∷ [] })
+stays_key_chain : (keys : KeyChain) (key : Key) → IsKeyChain keys → length keys.list < 4 → has_id key.id keys.list ≡ false
+    → IsTrue (fits_kind keys.kind key.secret) → IsKeyChain (record keys { list = keys.list ++ key ∷ [] })
 stays_key_chain keys key chain room fresh fits =
     let all = list_all-append (λ other. fits_kind keys.kind other.secret) keys.list (key ∷ []) in
     record {
@@ -30,7 +33,8 @@ stays_key_chain keys key chain room fresh fits =
     }
 
 -- the same, where what is known is said of an equal list
-pub gains_key : (keys now : KeyChain) (key : Key) → keys ≡ now → IsKeyChain keys → length now.list < 4 → has_id key.id now.list ≡ false → IsTrue (fits_kind now.kind key.secret) → IsKeyChain (record keys { list = keys.list ++ key ∷ [] })
+pub gains_key : (keys now : KeyChain) (key : Key) → keys ≡ now → IsKeyChain keys → length now.list < 4 → has_id key.id now.list ≡ false
+    → IsTrue (fits_kind now.kind key.secret) → IsKeyChain (record keys { list = keys.list ++ key ∷ [] })
 gains_key keys now key same chain room fresh fits =
     let e = sym same in
     stays_key_chain keys key chain (rw (← e) room) (rw (← e) fresh) (subst (λ (k : KeyChain). IsTrue (fits_kind k.kind key.secret)) e fits)
@@ -42,7 +46,8 @@ other_id id (first ∷ keys) zero h lt = (or_parts (nat_eq id first.id) (has_id 
 other_id id (first ∷ keys) (suc place) h lt = other_id id keys place (or_parts (nat_eq id first.id) (has_id id keys) h).1 (omega arith)
 
 -- a key's id names it
-key_named-key_at : (keys : List Key) (place : ℕ) → distinct_ids keys ≡ true → place < length keys → key_named (key_at place keys).id keys ≡ Some (key_at place keys)
+key_named-key_at : (keys : List Key) (place : ℕ) → distinct_ids keys ≡ true → place < length keys
+    → key_named (key_at place keys).id keys ≡ Some (key_at place keys)
 key_named-key_at [] place d lt = absurd (omega arith)
 key_named-key_at (first ∷ keys) zero d lt = let e : nat_eq first.id first.id ≡ true = grind arith in rw e refl
 key_named-key_at (first ∷ keys) (suc place) d lt =
@@ -52,5 +57,6 @@ key_named-key_at (first ∷ keys) (suc place) d lt =
     rw (eq_id-comm (key_at place keys).id first.id ∙ other_id first.id keys _ fresh lower) (key_named-key_at keys _ both.1 lower)
 
 -- the same of the key that stands there
-pub names_itself : (keys : List Key) {place : ℕ} {key : Key} → distinct_ids keys ≡ true → place < length keys → key ≡ key_at place keys → key_named key.id keys ≡ Some key
+pub names_itself : (keys : List Key) {place : ℕ} {key : Key} → distinct_ids keys ≡ true → place < length keys → key ≡ key_at place keys
+    → key_named key.id keys ≡ Some key
 names_itself keys {place} ids lt e = rw e (key_named-key_at keys _ ids lt)

@@ -1,5 +1,6 @@
 -- What is written reads back.
-use Rattle.std.proofs.Common.{◌≡◌, ◌≢◌, ◌<◌, ◌≤◌, ◌+◌, ◌*◌, ◌/◌, ◌%◌, ◌^◌, ◌++◌, if◌then◌else◌, List, [], ◌∷◌, ℕ, Bool, true, false, not, length, refl, sym, ap, subst, arith, nat_eq, nat_lt, None, Ok}
+use Rattle.std.proofs.Common.{◌≡◌, ◌≢◌, ◌<◌, ◌≤◌, ◌+◌, ◌*◌, ◌/◌, ◌%◌, ◌^◌, ◌++◌, if◌then◌else◌, List, [], ◌∷◌, ℕ, Bool, true, false, not}
+use Rattle.std.proofs.Common.{length, refl, sym, ap, subst, arith, nat_eq, nat_lt, None, Ok}
 use Rattle.std.proofs.lemmas.Bool.Decides.{nat_tests}
 use Rattle.std.specs.Prelude.{find}
 use Rattle.byteorder.specs.Endian.{big_bytes}
@@ -9,7 +10,8 @@ use Rattle.bfd_packet.specs.declared.control.State.{State}
 use Rattle.bfd_packet.specs.declared.control.State.TheVariants.{AdminDown, Down, Init, Up}
 use Rattle.bfd_packet.specs.declared.arrival.Port.{Port}
 use Rattle.bfd_packet.specs.declared.discard.Test.TheVariants.{Short, Version, LengthMin, LengthOver, DetectMult, Multipoint, MyDiscr}
-use Rattle.bfd_packet.specs.Layout.{HasWords, as_sent, bit_of, flag_byte, flag_of, fields_of, has_section, state_number, state_of, text_of, word_at}
+use Rattle.bfd_packet.specs.Layout.{HasWords, as_sent, bit_of, flag_byte, flag_of, fields_of, has_section, state_number, state_of, text_of}
+use Rattle.bfd_packet.specs.Layout.{word_at}
 use Rattle.bfd_packet.specs.HeaderTests.{PassesHeader, header_fails, read_of}
 
 -- a flag as a digit
@@ -58,10 +60,19 @@ digits-sum s hp hf hc ha hd hm e = record {
 }
 
 -- the flags' byte has the flags as its digits
-digits-flag_byte : (c : Control) (section : List ℕ) → Digits (flag_byte c section) (state_number c.state) (digit c.poll) (digit c.fin) (digit c.cpi) (digit (has_section section)) (digit c.demand) (digit c.multi)
+digits-flag_byte : (c : Control) (section : List ℕ) → Digits (flag_byte c section) (state_number c.state) (digit c.poll) (digit c.fin)
+    (digit c.cpi) (digit (has_section section)) (digit c.demand) (digit c.multi)
 digits-flag_byte c section = digits-sum _
     (digit-le c.poll) (digit-le c.fin) (digit-le c.cpi) (digit-le (has_section section)) (digit-le c.demand) (digit-le c.multi) (
-    omega (arith, bit_of-digit c.poll 5, bit_of-digit c.fin 4, bit_of-digit c.cpi 3, bit_of-digit (has_section section) 2, bit_of-digit c.demand 1, bit_of-digit c.multi 0))
+    omega (
+      arith,
+      bit_of-digit c.poll 5,
+      bit_of-digit c.fin 4,
+      bit_of-digit c.cpi 3,
+      bit_of-digit (has_section section) 2,
+      bit_of-digit c.demand 1,
+      bit_of-digit c.multi 0,
+    ))
 
 -- a flag of what is written
 flag-of : (n place : ℕ) (b : Bool) → n / 2 ^ place % 2 ≡ digit b → nat_eq (n / 2 ^ place % 2) 1 ≡ b
@@ -83,9 +94,25 @@ fields_of-text_of c section diag words =
     let b = digits-flag_byte c section in
     let n : ℕ = flag_byte c section in
     let first : (32 + c.diag) % 32 ≡ c.diag = omega arith in
-    let my = big_number-reads_back 4 c.my (big_bytes 4 c.your ++ (big_bytes 4 c.min_tx ++ (big_bytes 4 c.min_rx ++ (big_bytes 4 c.min_echo ++ section)))) words.my in
-    let your = big_number-reads_back 4 c.your (big_bytes 4 c.min_tx ++ (big_bytes 4 c.min_rx ++ (big_bytes 4 c.min_echo ++ section))) words.your in
-    rw (first, state-of n c.state b.state, flag-of n 5 c.poll b.poll, flag-of n 4 c.fin b.fin, flag-of n 3 c.cpi b.cpi, flag-of n 2 (has_section section) b.auth, flag-of n 1 c.demand b.demand, flag-of n 0 c.multi b.multi, my, your, big_number-reads_back 4 c.min_tx (big_bytes 4 c.min_rx ++ (big_bytes 4 c.min_echo ++ section)) words.min_tx, big_number-reads_back 4 c.min_rx (big_bytes 4 c.min_echo ++ section) words.min_rx, big_number-reads_back 4 c.min_echo section words.min_echo) refl
+    let my = big_number-reads_back 4 c.my (big_bytes 4 c.your
+    ++ (big_bytes 4 c.min_tx ++ (big_bytes 4 c.min_rx ++ (big_bytes 4 c.min_echo ++ section)))) words.my in
+    let your = big_number-reads_back 4 c.your (big_bytes 4 c.min_tx ++ (big_bytes 4 c.min_rx ++ (big_bytes 4 c.min_echo ++ section)))
+    words.your in
+    rw (
+      first,
+      state-of n c.state b.state,
+      flag-of n 5 c.poll b.poll,
+      flag-of n 4 c.fin b.fin,
+      flag-of n 3 c.cpi b.cpi,
+      flag-of n 2 (has_section section) b.auth,
+      flag-of n 1 c.demand b.demand,
+      flag-of n 0 c.multi b.multi,
+      my,
+      your,
+      big_number-reads_back 4 c.min_tx (big_bytes 4 c.min_rx ++ (big_bytes 4 c.min_echo ++ section)) words.min_tx,
+      big_number-reads_back 4 c.min_rx (big_bytes 4 c.min_echo ++ section) words.min_rx,
+      big_number-reads_back 4 c.min_echo section words.min_echo,
+    ) refl
 
 -- Length is at least 24, and 26 where a section follows
 length_min-false : (size : ℕ) → size ≢ 1 → nat_lt (24 + size) (if not (nat_eq size 0) then 26 else 24) ≡ false
@@ -94,7 +121,8 @@ length_min-false size apart = grind (arith, nat_tests)
 -- what is written passes the header tests that its fields pass
 passes : (takes : Bool) (c : Control) (section : List ℕ) → c.diag < 32 → HasWords c → length section ≢ 1
     → c.mult ≢ 0 → (takes ≡ false → c.multi ≡ false) → c.my ≢ 0
-    → find (λ test. header_fails test (text_of c section)) (Short ∷ Version ∷ LengthMin ∷ LengthOver ∷ DetectMult ∷ (if takes then MyDiscr ∷ [] else Multipoint ∷ MyDiscr ∷ [])) ≡ None
+    → find (λ test. header_fails test (text_of c section))
+    (Short ∷ Version ∷ LengthMin ∷ LengthOver ∷ DetectMult ∷ (if takes then MyDiscr ∷ [] else Multipoint ∷ MyDiscr ∷ [])) ≡ None
 unfolding text_of
 passes takes c section diag words apart mult multi my =
     let same = fields_of-text_of c section diag words in
@@ -121,7 +149,8 @@ read_of-text_of {c} section diag words {port} fields apart =
     rw (passes _ c section diag words apart fields.mult fields.multi fields.my) (ap Ok (fields_of-text_of c section diag words))
 
 -- the same of equal bytes
-pub read_of-written : {c : Control} (section : List ℕ) {bytes : List ℕ} → bytes ≡ text_of c section → c.diag < 32 → HasWords c → (port : Port)
+pub read_of-written : {c : Control} (section : List ℕ) {bytes : List ℕ} → bytes ≡ text_of c section → c.diag < 32 → HasWords c
+    → (port : Port)
     → PassesHeader port c → length section ≢ 1 → read_of port bytes ≡ Ok (as_sent c section)
 read_of-written {c} section same diag words port fields apart =
     let P : List ℕ → Type 0 = λ packet. read_of port packet ≡ Ok (as_sent c section) in

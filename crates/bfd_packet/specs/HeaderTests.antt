@@ -1,5 +1,6 @@
 -- The tests that look at a packet's header alone (RFC 5880 section 6.8.6).
-use Rattle.std.specs.Prelude.{◌≢◌, ◌≡◌, ◌/◌, ◌==◌, if◌then◌else◌, nat_lt, ℕ, Bool, true, false, not, List, [], ◌∷◌, length, slice_index, find, Option, Some, None, Result, Ok, Err}
+use Rattle.std.specs.Prelude.{◌≢◌, ◌≡◌, ◌/◌, ◌==◌, if◌then◌else◌, nat_lt, ℕ, Bool, true, false, not, List, [], ◌∷◌, length, slice_index}
+use Rattle.std.specs.Prelude.{find, Option, Some, None, Result, Ok, Err}
 use Rattle.bfd_packet.specs.declared.control.Control.{Control}
 use Rattle.bfd_packet.specs.declared.arrival.Port.{Port}
 use Rattle.bfd_packet.specs.declared.arrival.Port.TheVariants.{Single}

@@ -1,5 +1,6 @@
 -- The keys of a session (RFC 5880 section 6.7).
-use Rattle.std.specs.Prelude.{◌≤◌, ◌<◌, ◌&&◌, ◌==◌, ℕ, Bool, true, false, not, nat_le, List, [], ◌∷◌, length, position, find, slice_index_or, Option, IsTrue}
+use Rattle.std.specs.Prelude.{◌≤◌, ◌<◌, ◌&&◌, ◌==◌, ℕ, Bool, true, false, not, nat_le, List, [], ◌∷◌, length, position, find}
+use Rattle.std.specs.Prelude.{slice_index_or, Option, IsTrue}
 use Rattle.std.specs.List.{list_all, list_any}
 use Rattle.bfd_packet.specs.declared.keys.AuthType.{AuthType}
 use Rattle.bfd_packet.specs.declared.keys.AuthType.TheVariants.{Password, KeyedMd5, MeticulousMd5, KeyedSha1, MeticulousSha1}

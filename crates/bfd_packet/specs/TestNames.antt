@@ -1,7 +1,10 @@
 -- The names of the tests, as reports print them.
 use Rattle.std.specs.Prelude.{ℕ, List, codes}
 use Rattle.bfd_packet.specs.declared.discard.Test.{Test}
-use Rattle.bfd_packet.specs.declared.discard.Test.TheVariants.{Short, Version, LengthMin, LengthOver, DetectMult, Multipoint, MyDiscr, YourUnknown, YourZeroState, NoSession, Ttl, AuthUnexpected, AuthMissing, AuthType, AuthKey, AuthLen, AuthSeq, AuthDigest, AdminDown, NotDemand, MultipointYour, NoTail, EchoForm, EchoStale}
+use Rattle.bfd_packet.specs.declared.discard.Test.TheVariants.{Short, Version, LengthMin, LengthOver, DetectMult, Multipoint, MyDiscr}
+use Rattle.bfd_packet.specs.declared.discard.Test.TheVariants.{YourUnknown, YourZeroState, NoSession, Ttl, AuthUnexpected, AuthMissing}
+use Rattle.bfd_packet.specs.declared.discard.Test.TheVariants.{AuthType, AuthKey, AuthLen, AuthSeq, AuthDigest, AdminDown, NotDemand}
+use Rattle.bfd_packet.specs.declared.discard.Test.TheVariants.{MultipointYour, NoTail, EchoForm, EchoStale}
 
 -- a test's name, as it is written in the enum
 abbrev pub name_of : Test → List ℕ

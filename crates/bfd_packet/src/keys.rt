@@ -241,7 +241,7 @@ impl Keys {
         self.list.as_slice().iter().any(|key| id == key.id)
     }
 
-    /// The place of the key with this id, 0 to 3, or None exactly where no key has it, as where it is above 255.
+    /// The place of the key with this id, 0 to 3, or None if and only if no key has it, as where it is above 255.
     pub fn place_of(&self, id: u64) -> Option<u8>
         ensures value { result ≡ place_of id self.now.list }
         ensures within { IfSome result (λ place. place < length self.now.list) }
@@ -285,7 +285,7 @@ impl Keys {
         &self.list.as_slice()[usize::from(place)]
     }
 
-    /// The key with this id, or None exactly where no key has it. Its secret has a length that the type
+    /// The key with this id, or None if and only if no key has it. Its secret has a length that the type
     /// allows.
     pub fn key_named(&self, id: u8) -> Option<&Key>
         ensures value { option_copied result ≡ key_named id self.now.list }

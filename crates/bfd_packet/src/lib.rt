@@ -6,7 +6,7 @@
 //!
 //! It stands on `byteorder` and `arrayvec` alone. It promises that `header_test` and `read` are the
 //! standard's sentences for every payload and port, that `write` is the standard's layout, that what is
-//! written reads back, and that only `Payload::keep` and copies take memory.
+//! written reads back, and that only `Payload::keep` and copies allocate memory.
 #![tactic(auto)]
 
 mod arrival;

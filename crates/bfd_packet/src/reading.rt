@@ -7,7 +7,7 @@ ghost use Rattle.bfd_packet.specs.HeaderTests.{first_failing, read_of, takes_mul
 use crate::{Control, Port, State, Test};
 use byteorder::{BigEndian, ByteOrder};
 
-/// The first test on the header that the payload fails on this port, or None exactly where it passes them
+/// The first test on the header that the payload fails on this port, or None if and only if it passes them
 /// all. The tests are Short, Version, LengthMin, LengthOver, DetectMult, Multipoint (on every port but
 /// single) and MyDiscr, in this order (RFC 5880 section 6.8.6, RFC 8562 section 5.13).
 pub fn header_test(port: Port, payload: &[u8]) -> Option<Test>
@@ -95,7 +95,7 @@ fn state_in(number: u8) -> State
     }
 }
 
-// Whether the port takes packets with M set.
+// Whether the port accepts packets with M set.
 fn takes_multipoint(port: Port) -> bool
     ensures { result ≡ takes_multipoint_of port }
 {

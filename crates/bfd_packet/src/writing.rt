@@ -10,7 +10,7 @@ use arrayvec::ArrayVec;
 use byteorder::{BigEndian, ByteOrder};
 
 /// The bytes of a control packet with an authentication section, which may be empty (RFC 5880 section 4.1).
-/// Version is 1, A is set exactly where the section isn't empty, and Length is 24 plus the section's; so
+/// Version is 1, A is set if and only if the section isn't empty, and Length is 24 plus the section's; so
 /// `auth` and `length` of `c` play no part. `diag` is below 32.
 pub fn write(c: &Control, section: &AuthBytes) -> Wire
     requires { c.now.diag < 32 }

@@ -1,5 +1,7 @@
+//! Selection by addresses and by discriminators, and what a table refuses.
 ghost use Rattle.std.specs.Prelude.{◌≡◌, ◌<◌, ◌≤◌, ◌+◌, false};
 ghost use Rattle.bfd_demux.specs.Selection.{is_by_addresses};
+ghost use Rattle.bfd_num.specs.Counting.{IsBlankOf};
 
 use bfd_demux::{AddFault, BuildFault, Demux, Row, RowKind, Target};
 use bfd_num::Steps;
@@ -93,16 +95,14 @@ fn packet(flags: u8, my: u8, your: u32) -> [u8; 24] {
     bytes
 }
 
-// What `select` of a table answers where `screen` of the first one names a row, and else the test that this tells.
+// What `select` of a table answers where `screen` of the first one names a row, and else the test that this answers.
 fn screened<L: Ledger>(
     first: &Demux,
     table: &Demux,
     arrival: &Arrival,
     blank: Blank,
 ) -> Result<Target, Test>
-    requires name { blank.name ≡ L.name }
-    requires parts { blank.parts ≡ L.parts }
-    requires some { 0 < blank.parts }
+    requires blank { IsBlankOf L.name L.parts blank.name blank.parts }
 {
     let mut steps = Steps::<L>::new(blank);
     first.screen(arrival, &mut steps)?;
@@ -314,9 +314,7 @@ fn answered<L: Ledger>(
     yours: &[u32],
     blank: Blank,
 ) -> Result<Vec<Result<Target, Test>>, AllocError>
-    requires name { blank.name ≡ L.name }
-    requires parts { blank.parts ≡ L.parts }
-    requires some { 0 < blank.parts }
+    requires blank { IsBlankOf L.name L.parts blank.name blank.parts }
 {
     let mut steps = Steps::<L>::new(blank);
     let mut targets = Vec::new(alloc);

@@ -1,10 +1,10 @@
-// The adapters over a reader and a writer that fail.
+//! The adapters over a reader and a writer that fail.
 use bfd_edge::{Fault, Sink, Source, StdSink, StdSource};
 use std::io;
 use std::io::{Cursor, Read, Write};
 use std::process::Abort;
 
-/// A reader and a writer that fail always, or take nothing.
+/// A reader and a writer that fail always, or accept nothing.
 #[derive(Drop)]
 struct Broken {
     takes_nothing: bool,
@@ -97,7 +97,7 @@ fn adapted_sources(rt: HostRuntime) {
 
 #[test]
 fn adapted_sinks(rt: HostRuntime) {
-    // To take nothing is a fault too, which the count tells.
+    // To accept nothing is a fault too, which the count reports.
     for (takes_nothing, answer) in [(false, Err(Fault::Failed)), (true, Ok(0))] {
         let mut sink = StdSink::make(Broken { takes_nothing });
         assert!(rt; sink.write(b"xyz") == answer);

@@ -1,4 +1,4 @@
-// Links over the machine's own addresses, and its clock.
+//! Links over the machine's own addresses, and its clock.
 use bfd_edge::{Fault, Link, Next, Ports, Received, Ticker};
 use bfd_net::{ClockTicker, UdpLink, UdpPorts, udp_port};
 use bfd_packet::{Addr, Arrival, Datagram, Port, Wire};
@@ -31,7 +31,7 @@ fn packet_to(address: u32) -> Datagram {
 /// Moves to another thread.
 fn crosses<T: Send>(_value: &T) {}
 
-/// A number of a link that no other run of these tests takes at the same time, but by accident.
+/// A number of a link that no other run of these tests uses at the same time, but by accident.
 fn own_number(rt: &HostRuntime) -> u32 {
     6 + process::id(rt.process()) % 1000
 }

@@ -1,5 +1,10 @@
 -- Only a packet in Init or Up makes a session tell a change to Up, or leaves one Up that wasn't.
-use Rattle.bfd_pair.proofs.Common.{◌≡◌, inl, inr, ◌++◌, not, ℕ, Bool, true, false, List, [], ◌∷◌, refl, Option, None, Some, Result, Ok, Err, if◌then◌else◌, both_ways, not-true, or_from, or_parts, Arrival, Control, State, AdminDown, Down, Init, Up, Test, SeqState, fields_of, is_init_or_up, Cmd, Config, Out, Mark, Vars, is_up, same_state, Course, course, changes, sends, told, transmits, SessionConfig, Pair, Packet, Command, Running, Flow, begun, settled, acted, finished, step, step_from, stepped_flow, tick, tick_from, ticked_flow, next, emits, tick_next, tick_emits, tells_up, Changed, Sent, Echo}
+use Rattle.bfd_pair.proofs.Common.{◌≡◌, inl, inr, ◌++◌, not, ℕ, Bool, true, false, List, [], ◌∷◌, refl, Option, None, Some, Result, Ok, Err}
+use Rattle.bfd_pair.proofs.Common.{if◌then◌else◌, both_ways, not-true, or_from, or_parts, Arrival, Control, State, AdminDown, Down, Init}
+use Rattle.bfd_pair.proofs.Common.{Up, Test, SeqState, fields_of, is_init_or_up, Cmd, Config, Out, Mark, Vars, is_up, same_state, Course}
+use Rattle.bfd_pair.proofs.Common.{course, changes, sends, told, transmits, SessionConfig, Pair, Packet, Command, Running, Flow, begun}
+use Rattle.bfd_pair.proofs.Common.{settled, acted, finished, step, step_from, stepped_flow, tick, tick_from, ticked_flow, next, emits}
+use Rattle.bfd_pair.proofs.Common.{tick_next, tick_emits, tells_up, Changed, Sent, Echo}
 use Rattle.bfd_rules.proofs.Still.{same_itself}
 use Rattle.bfd_p2p.specs.Receive as receiving
 use Rattle.bfd_echo.specs.declared.echo.EchoResult.{EchoResult}
@@ -22,7 +27,8 @@ tells-append (Changed discr old new diag ∷ xs) ys h k = or_from (is_up new) (t
     (tells-append xs ys (or_parts (is_up new) (tells_up xs) h).1 k)
 tells-append (Sent discr datagram ∷ xs) ys h k = tells-append xs ys h k
 
-told_low : (discr diag : ℕ) (a b : State) → not (is_up b) ≡ true → (same : Bool) → tells_up (if same then [] else Changed discr a b diag ∷ []) ≡ false
+told_low : (discr diag : ℕ) (a b : State) → not (is_up b) ≡ true → (same : Bool)
+    → tells_up (if same then [] else Changed discr a b diag ∷ []) ≡ false
 told_low discr diag a AdminDown low true = refl
 told_low discr diag a Down low true = refl
 told_low discr diag a Init low true = refl
@@ -77,17 +83,21 @@ echo_calm : {was : Bool} (c : Config) (limit eff : ℕ) (f : Flow) → Calm was 
 unfolding settles_echo
 echo_calm c limit eff f h = running_calm c limit eff _ f h
 
-settled_calm : {was : Bool} (c : SessionConfig) (limit eff : ℕ) (f : Flow) → IsPoint c → Calm was f.course → Calm was (settled c limit eff f).course
+settled_calm : {was : Bool} (c : SessionConfig) (limit eff : ℕ) (f : Flow) → IsPoint c → Calm was f.course
+    → Calm was (settled c limit eff f).course
 settled_calm {was} (Pair c) limit eff f p h = echo_calm c limit eff _
     (settle_keeps (Calm was) low_state (calm_still was) (calm_goes was) (calm_puts was) refl refl c limit eff _ h)
 settled_calm c limit eff f p h = absurd p
 
 finished_calm : {was : Bool} (c : SessionConfig) (eff : ℕ) (f : Flow) → IsPoint c → Calm was f.course → Calm was (finished c eff f).course
-finished_calm {was} (Pair c) eff f p h = finish_keeps (Calm was) low_state (calm_still was) (calm_goes was) (calm_puts was) refl refl c eff _ h
+finished_calm {was} (Pair c) eff f p h = finish_keeps (Calm was) low_state (calm_still was) (calm_goes was) (calm_puts was) refl refl c eff
+    _ h
 finished_calm c eff f p h = absurd p
 
-ordered_calm : {was : Bool} (c : SessionConfig) (eff : ℕ) (cmd : Cmd) (f : Flow) → IsPoint c → Calm was f.course → Calm was (acted c eff (Command cmd) f).course
-ordered_calm {was} (Pair c) eff cmd f p h = commanded_keeps (Calm was) low_state (calm_still was) (calm_goes was) (calm_puts was) refl refl c eff cmd _ h
+ordered_calm : {was : Bool} (c : SessionConfig) (eff : ℕ) (cmd : Cmd) (f : Flow) → IsPoint c → Calm was f.course
+    → Calm was (acted c eff (Command cmd) f).course
+ordered_calm {was} (Pair c) eff cmd f p h = commanded_keeps (Calm was) low_state (calm_still was) (calm_goes was) (calm_puts was) refl refl
+    c eff cmd _ h
 ordered_calm c eff cmd f p h = absurd p
 
 received_calm : {was : Bool} (c : Config) (eff : ℕ) (packet : Control) (judgement : Result SeqState Test) {s : Course}
@@ -111,19 +121,22 @@ pub tick_untold : (s : Running) (limit eff : ℕ) → IsPoint s.config → tells
 unfolding tick_emits ticked_flow
 tick_untold s limit eff p = (tick_calm s limit eff p).untold
 
-pub tick_low : (s : Running) (limit eff : ℕ) → IsPoint s.config → is_up (tick_next limit eff s).vars.state ≡ true → is_up s.vars.state ≡ true
+pub tick_low : (s : Running) (limit eff : ℕ) → IsPoint s.config → is_up (tick_next limit eff s).vars.state ≡ true
+    → is_up s.vars.state ≡ true
 unfolding ticked_flow
 tick_low s limit eff p = (tick_calm s limit eff p).low
 
 order_calm : (s : Running) (eff : ℕ) (cmd : Cmd) → IsPoint s.config → Calm (is_up s.vars.state) (step_from eff (Command cmd) s []).course
 unfolding step
-order_calm s eff cmd p = finished_calm s.config eff _ p (ordered_calm s.config eff cmd _ p (settled_calm s.config eff eff _ p (begun_calm (Some eff) s)))
+order_calm s eff cmd p = finished_calm s.config eff _ p
+    (ordered_calm s.config eff cmd _ p (settled_calm s.config eff eff _ p (begun_calm (Some eff) s)))
 
 pub order_untold : (s : Running) (eff : ℕ) (cmd : Cmd) → IsPoint s.config → tells_up (emits eff (Command cmd) s) ≡ false
 unfolding emits stepped_flow
 order_untold s eff cmd p = (order_calm s eff cmd p).untold
 
-pub order_low : (s : Running) (eff : ℕ) (cmd : Cmd) → IsPoint s.config → is_up (next eff (Command cmd) s).vars.state ≡ true → is_up s.vars.state ≡ true
+pub order_low : (s : Running) (eff : ℕ) (cmd : Cmd) → IsPoint s.config → is_up (next eff (Command cmd) s).vars.state ≡ true
+    → is_up s.vars.state ≡ true
 unfolding stepped_flow
 order_low s eff cmd p = (order_calm s eff cmd p).low
 
@@ -139,6 +152,7 @@ unfolding emits stepped_flow
 packet_untold s eff arrival p low = (packet_calm s eff arrival p low).untold
 
 pub packet_low : (s : Running) (eff : ℕ) (arrival : Arrival) → IsPoint s.config
-    → is_init_or_up (fields_of arrival.payload).state ≡ false → is_up (next eff (Packet arrival) s).vars.state ≡ true → is_up s.vars.state ≡ true
+    → is_init_or_up (fields_of arrival.payload).state ≡ false → is_up (next eff (Packet arrival) s).vars.state ≡ true
+    → is_up s.vars.state ≡ true
 unfolding stepped_flow
 packet_low s eff arrival p low = (packet_calm s eff arrival p low).low

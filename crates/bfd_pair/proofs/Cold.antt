@@ -1,5 +1,10 @@
 -- A session outside Init and Up that handles no packet stays there, and sends no packet in Init or Up.
-use Rattle.bfd_pair.proofs.Common.{◌≡◌, inl, inr, ◌++◌, not, ℕ, Bool, true, false, List, [], refl, ap, ◌∙◌, Option, None, Some, Result, Ok, Err, if◌then◌else◌, not-true, Arrival, Control, State, Init, Up, Test, SeqState, fields_of, is_init_or_up, Cmd, Config, Out, Mark, Vars, is_admin_down, is_up, Course, course, changes, sends, told, transmits, packet_bytes, packet_of, SessionConfig, Pair, Packet, Command, Running, Flow, begun, settled, acted, finished, step, step_from, stepped_flow, tick, tick_from, ticked_flow, next, emits, tick_next, tick_emits, reply, answer_of, answer_to_packet, packets_among, renewed_state, Echo, Answer, Handled}
+use Rattle.bfd_pair.proofs.Common.{◌≡◌, inl, inr, ◌++◌, not, ℕ, Bool, true, false, List, [], refl, ap, ◌∙◌, Option, None, Some, Result, Ok}
+use Rattle.bfd_pair.proofs.Common.{Err, if◌then◌else◌, not-true, Arrival, Control, State, Init, Up, Test, SeqState, fields_of}
+use Rattle.bfd_pair.proofs.Common.{is_init_or_up, Cmd, Config, Out, Mark, Vars, is_admin_down, is_up, Course, course, changes, sends, told}
+use Rattle.bfd_pair.proofs.Common.{transmits, packet_bytes, packet_of, SessionConfig, Pair, Packet, Command, Running, Flow, begun, settled}
+use Rattle.bfd_pair.proofs.Common.{acted, finished, step, step_from, stepped_flow, tick, tick_from, ticked_flow, next, emits, tick_next}
+use Rattle.bfd_pair.proofs.Common.{tick_emits, reply, answer_of, answer_to_packet, packets_among, renewed_state, Echo, Answer, Handled}
 use Rattle.std.proofs.Math.Bool.{and-false}
 use Rattle.bfd_auth.specs.Sealed.{sealed, section_of}
 use Rattle.bfd_packet.specs.declared.discard.Test.TheVariants.{AdminDown as DiscardAdminDown}
@@ -26,7 +31,8 @@ pub record Cold (s : Course) : Type 0 where
 abbrev cold_state : State → Bool
 cold_state state = not (is_init_or_up state)
 
-bytes_state : (keys : Option KeyChain) (with : ℕ) (seq : SeqState) (packet : Control) → (fields_of (packet_bytes keys with seq packet)).state ≡ packet.state
+bytes_state : (keys : Option KeyChain) (with : ℕ) (seq : SeqState) (packet : Control)
+    → (fields_of (packet_bytes keys with seq packet)).state ≡ packet.state
 unfolding sealed
 bytes_state None with seq packet = reads_state packet []
 bytes_state (Some keys) with seq packet = reads_state packet (section_of keys.kind (key_at with keys.list) seq.xmit packet)
@@ -78,7 +84,8 @@ unfolding settles_echo
 echo_cold c limit eff f h = rw (no_echo c f.course.vars f.echo h.state) h
 
 settled_cold : (c : SessionConfig) (limit eff : ℕ) (f : Flow) → IsPoint c → Cold f.course → Cold (settled c limit eff f).course
-settled_cold (Pair c) limit eff f p h = echo_cold c limit eff _ (settle_keeps Cold cold_state cold_still cold_goes cold_puts refl refl c _ eff _ h)
+settled_cold (Pair c) limit eff f p h = echo_cold c limit eff _
+    (settle_keeps Cold cold_state cold_still cold_goes cold_puts refl refl c _ eff _ h)
 settled_cold c limit eff f p h = absurd p
 
 finished_cold : (c : SessionConfig) (eff : ℕ) (f : Flow) → IsPoint c → Cold f.course → Cold (finished c eff f).course
@@ -98,11 +105,13 @@ pub tick_state : (s : Running) (limit eff : ℕ) → IsPoint s.config → is_ini
 unfolding ticked_flow
 tick_state s limit eff p low = (tick_cold s limit eff p low).state
 
-pub tick_packets : (s : Running) (limit eff : ℕ) → IsPoint s.config → is_init_or_up s.vars.state ≡ false → Each IsCold (packets_among (tick_emits limit eff s))
+pub tick_packets : (s : Running) (limit eff : ℕ) → IsPoint s.config → is_init_or_up s.vars.state ≡ false
+    → Each IsCold (packets_among (tick_emits limit eff s))
 unfolding tick_emits ticked_flow
 tick_packets s limit eff p low = (tick_cold s limit eff p low).packets
 
-order_cold : (s : Running) (eff : ℕ) (cmd : Cmd) → IsPoint s.config → is_init_or_up s.vars.state ≡ false → Cold (step_from eff (Command cmd) s []).course
+order_cold : (s : Running) (eff : ℕ) (cmd : Cmd) → IsPoint s.config → is_init_or_up s.vars.state ≡ false
+    → Cold (step_from eff (Command cmd) s []).course
 unfolding step
 order_cold s eff cmd p low = finished_cold s.config eff _ p
     (ordered_cold s.config eff cmd _ p (settled_cold s.config eff eff _ p (begun_cold (Some eff) s low)))
@@ -123,7 +132,8 @@ abbrev pub is_handled : Answer → Bool
 is_handled Handled = true
 is_handled _ = false
 
-kept_state : (c : Config) (eff : ℕ) (packet : Control) (seq : SeqState) (s : Course) → (receiving.kept c eff packet seq s).vars.state ≡ s.vars.state
+kept_state : (c : Config) (eff : ℕ) (packet : Control) (seq : SeqState) (s : Course)
+    → (receiving.kept c eff packet seq s).vars.state ≡ s.vars.state
 unfolding receiving.kept receiving.ends_poll receiving.keeps_fields receiving.keeps_sequence renews
 kept_state c eff packet seq s = by_fin packet.fin _ _ (renewed_state eff _ _) ∙ (renewed_state eff _ _ ∙ renewed_state eff _ _)
   where
@@ -136,10 +146,12 @@ admin_by true h = refl
 admin_by false h = cc
 
 unhandled_cold : (c : Config) (eff : ℕ) (packet : Control) (judgement : Result SeqState Test) {s : Course}
-    → is_handled (answer_to_packet (receiving.verdict_by s.vars.state judgement)) ≡ false → Cold s → Cold (receiving.received_on c eff packet judgement s)
+    → is_handled (answer_to_packet (receiving.verdict_by s.vars.state judgement)) ≡ false → Cold s
+    → Cold (receiving.received_on c eff packet judgement s)
 unfolding receiving.received_on receiving.accepted
 unhandled_cold c eff packet (Ok seq) {s} refused h =
-    rw (ap is_admin_down (kept_state c eff packet seq s) ∙ admin_by (is_admin_down s.vars.state) refused) (kept_keeps Cold cold_state cold_still cold_goes cold_puts refl refl c eff packet seq h)
+    rw (ap is_admin_down (kept_state c eff packet seq s) ∙ admin_by (is_admin_down s.vars.state) refused)
+    (kept_keeps Cold cold_state cold_still cold_goes cold_puts refl refl c eff packet seq h)
 unhandled_cold c eff packet (Err test) refused h = h
 
 acted_cold : (c : SessionConfig) (eff : ℕ) (arrival : Arrival) (f : Flow) → IsPoint c

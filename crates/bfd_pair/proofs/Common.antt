@@ -1,5 +1,7 @@
 -- Names that proofs of this crate cite, passed on from one place. Declares nothing.
-pub use Rattle.std.proofs.Common.{Bool, Err, List, None, Ok, Option, Result, Some, [], ap, append-nil, append_assoc, arith, drop, false, if◌then◌else◌, inl, inr, is_some, length, length-append, max, not, refl, subst, suc, sym, take, true, zero, ℕ, ◌&&◌, ◌*◌, ◌++◌, ◌+◌, ◌-◌, ◌<◌, ◌==◌, ◌||◌, ◌∙◌, ◌∷◌, ◌≡◌, ◌≤◌, ◌⊎◌}
+pub use Rattle.std.proofs.Common.{Bool, Err, List, None, Ok, Option, Result, Some, [], ap, append-nil, append_assoc, arith, drop, false}
+pub use Rattle.std.proofs.Common.{if◌then◌else◌, inl, inr, is_some, length, length-append, max, not, refl, subst, suc, sym, take, true}
+pub use Rattle.std.proofs.Common.{zero, ℕ, ◌&&◌, ◌*◌, ◌++◌, ◌+◌, ◌-◌, ◌<◌, ◌==◌, ◌||◌, ◌∙◌, ◌∷◌, ◌≡◌, ◌≤◌, ◌⊎◌}
 pub use Rattle.std.proofs.lemmas.Bool.{both_ways, not-true, or_from, or_parts}
 pub use Rattle.std.specs.Prelude.{find, slice_get, unwrap_or, vec_capacity, vec_len}
 pub use Rattle.bfd_num.specs.Numbers.{floor_tick, greatest_tick, moment_bound}
@@ -15,7 +17,8 @@ pub use Rattle.bfd_packet.specs.declared.discard.Test.{Test}
 pub use Rattle.bfd_packet.specs.declared.keys.SeqState.{SeqState}
 pub use Rattle.bfd_pair.specs.Handshake.{Heard, IsHandshake, is_up_after, sent_by_then, tells_up}
 pub use Rattle.bfd_pair.specs.Inside.{IsPair, IsPeer, Pairing, both_of, by_way, pairing_of, seen}
-pub use Rattle.bfd_pair.specs.Run.{Both, End, Move, arrival_to, arrives, both_after, comes, given_packet, items_of, judged_move, opened_side, other, own_move, packet_at, packets_among, screened, side_moves, side_of, ticking, turn}
+pub use Rattle.bfd_pair.specs.Run.{Both, End, Move, arrival_to, arrives, both_after, comes, given_packet, items_of, judged_move}
+pub use Rattle.bfd_pair.specs.Run.{opened_side, other, own_move, packet_at, packets_among, screened, side_moves, side_of, ticking, turn}
 unfoldable pub use Rattle.bfd_pair.specs.Run.{pair_run}
 pub use Rattle.bfd_pair.specs.declared.event.PairEvent.{PairEvent}
 pub use Rattle.bfd_pair.specs.declared.event.PairEvent.TheVariants.{Give, Order, Tick}
@@ -32,7 +35,8 @@ pub use Rattle.bfd_rules.specs.declared.variables.Mark.{Mark}
 pub use Rattle.bfd_rules.specs.declared.variables.Vars.{Vars}
 pub use Rattle.bfd_session.proofs.Renewing.{drawn_state, renewed_state}
 pub use Rattle.bfd_session.specs.Kinds.{Flow, Running, discr_of}
-pub use Rattle.bfd_session.specs.Step.{CanTake, IsFit, IsSound, acted, answer_of, answer_to_packet, begun, finished, next, settled, sound_by, started, step_from, tick_from, tick_next}
+pub use Rattle.bfd_session.specs.Step.{CanTake, IsFit, IsSound, acted, answer_of, answer_to_packet, begun, finished, next, settled}
+pub use Rattle.bfd_session.specs.Step.{sound_by, started, step_from, tick_from, tick_next}
 unfoldable pub use Rattle.bfd_session.specs.Step.{emits, reply, step, stepped_flow, tick, tick_emits, ticked_flow}
 pub use Rattle.bfd_session.specs.declared.event.Event.TheVariants.{Command, Packet}
 pub use Rattle.bfd_session.specs.declared.event.SessionConfig.{SessionConfig}
@@ -43,5 +47,6 @@ pub use Rattle.bfd_session.specs.declared.event.Answer.{Answer}
 pub use Rattle.bfd_session.specs.declared.event.Answer.TheVariants.{Handled}
 pub use Rattle.bfd_session.specs.Alone.{effective, step_outcome, tick_items}
 pub use Rattle.std.proofs.lemmas.Bool.Decides.{nat_tests}
-pub use Rattle.bfd_demux.specs.Selection.{first_failing_on, first_header_failing, first_table_failing, is_multipoint, table_fails, tests_on_header}
+pub use Rattle.bfd_demux.specs.Selection.{first_failing_on, first_header_failing, first_table_failing, is_multipoint, table_fails}
+pub use Rattle.bfd_demux.specs.Selection.{tests_on_header}
 pub use Rattle.bfd_session.specs.Rows.{kind_of, row_of}

@@ -1,5 +1,9 @@
 -- A side comes to Up by a handshake alone.
-use Rattle.bfd_pair.proofs.Common.{◌≡◌, ◌⊎◌, inl, inr, ◌++◌, ◌*◌, max, ℕ, Bool, true, false, List, [], ◌∷◌, length, refl, Option, None, Some, both_ways, Arrival, Test, fields_of, is_init_or_up, Config, is_up, SessionConfig, Pair, discr_of, Side, Left, Right, PairEvent, Tick, Give, Order, End, Both, Move, other, side_of, items_of, packet_at, arrival_to, screened, judged_move, comes, given_packet, pair_run, turn, IsHandshake, tells_up, is_up_after, effective}
+use Rattle.bfd_pair.proofs.Common.{◌≡◌, ◌⊎◌, inl, inr, ◌++◌, ◌*◌, max, ℕ, Bool, true, false, List, [], ◌∷◌, length, refl, Option, None}
+use Rattle.bfd_pair.proofs.Common.{Some, both_ways, Arrival, Test, fields_of, is_init_or_up, Config, is_up, SessionConfig, Pair, discr_of}
+use Rattle.bfd_pair.proofs.Common.{Side, Left, Right, PairEvent, Tick, Give, Order, End, Both, Move, other, side_of, items_of, packet_at}
+use Rattle.bfd_pair.proofs.Common.{arrival_to, screened, judged_move, comes, given_packet, pair_run, turn, IsHandshake, tells_up}
+use Rattle.bfd_pair.proofs.Common.{is_up_after, effective}
 use Rattle.bfd_pair.proofs.Points.{IsPoint, way_point, run_point}
 use Rattle.bfd_pair.proofs.Calm.{tick_untold, tick_low, order_untold, order_low, packet_untold, packet_low}
 use Rattle.bfd_pair.proofs.Naming.{names, way_payload}
@@ -51,7 +55,8 @@ by_arrival w side moment number None sent way = inr (record { untold = refl; low
 by_arrival w side moment number (Some arrival) sent way = by_test w side moment number _ _ sent way refl refl
 
 by_packet : (w : Both) (side : Side) (moment number : ℕ) (found : Option (List ℕ)) → packet_at number (side_of (other side) w).sent ≡ found
-    → Rises w (Give side moment number) side ⊎ Stays (side_of side w) (given_packet found (length (side_of (other side) w).sent) moment w.last (side_of side w))
+    → Rises w (Give side moment number) side ⊎ Stays (side_of side w)
+    (given_packet found (length (side_of (other side) w).sent) moment w.last (side_of side w))
 by_packet w side moment number None is = inr (record { untold = refl; low = λ up. up })
 by_packet w side moment number (Some bytes) is = by_arrival w side moment number _ is refl
 
@@ -85,7 +90,8 @@ rises_or_stays w (Order Right moment cmd) Right p = inr (record {
 rises_or_stays w event side p = inr (record { untold = refl; low = λ up. up })
 
 module _ (left right : SessionConfig) (l : IsPoint left) (r : IsPoint right) where
-  shakes : (past : List PairEvent) {event : PairEvent} {side : Side} → Rises (pair_run left right past) event side → IsHandshake left right side event past
+  shakes : (past : List PairEvent) {event : PairEvent} {side : Side} → Rises (pair_run left right past) event side
+      → IsHandshake left right side event past
   shakes past {side} rise =
       let h =
       packet_heard left right l r (other side) past rise.number rise.sent rise.state in
@@ -109,7 +115,8 @@ module _ (left right : SessionConfig) (l : IsPoint left) (r : IsPoint right) whe
   ]
 
   pub comes_up : (past : List PairEvent) (event : PairEvent) (side : Side)
-      → is_up_after left right side past ≡ false → is_up_after left right side (past ++ event ∷ []) ≡ true → IsHandshake left right side event past
+      → is_up_after left right side past ≡ false → is_up_after left right side (past ++ event ∷ []) ≡ true
+      → IsHandshake left right side event past
   comes_up past event side low up = elim (rises_or_stays (pair_run left right past) event side (run_point left right l r past side)) [
     | inl rises ↦ shakes past rises
     | inr stays ↦ absurd (both_ways _ low (stays.low (cc (run_more left right past event))))
@@ -118,7 +125,8 @@ module _ (left right : SessionConfig) (l : IsPoint left) (r : IsPoint right) whe
 -- the same of two point-to-point sessions
 
 pub pair_handshakes : (left right : Config) (past : List PairEvent) (event : PairEvent) (side : Side)
-    → tells_up (items_of side (turn event (pair_run (Pair left) (Pair right) past))) ≡ true → IsHandshake (Pair left) (Pair right) side event past
+    → tells_up (items_of side (turn event (pair_run (Pair left) (Pair right) past))) ≡ true
+    → IsHandshake (Pair left) (Pair right) side event past
 pair_handshakes left right past event side up = handshakes (Pair left) (Pair right) tt tt past event side up
 
 pub pair_comes_up : (left right : Config) (past : List PairEvent) (event : PairEvent) (side : Side)

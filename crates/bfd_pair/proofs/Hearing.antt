@@ -1,5 +1,8 @@
 -- A side in Init or Up, and each packet in Init or Up that it has sent, come after it handled a packet of the other side.
-use Rattle.bfd_pair.proofs.Common.{◌≡◌, ◌⊎◌, inl, inr, ◌++◌, ◌==◌, ◌-◌, ◌<◌, ◌≤◌, ℕ, Bool, true, false, List, [], ◌∷◌, length, length-append, refl, sym, ap, ◌∙◌, arith, append_assoc, append-nil, Some, slice_get, both_ways, fields_of, is_init_or_up, SessionConfig, Pair, started, Side, Left, Right, PairEvent, Give, End, Both, side_of, packet_at, both_after, pair_run, turn, Heard, sent_by_then, drawn_state, nat_tests}
+use Rattle.bfd_pair.proofs.Common.{◌≡◌, ◌⊎◌, inl, inr, ◌++◌, ◌==◌, ◌-◌, ◌<◌, ◌≤◌, ℕ, Bool, true, false, List, [], ◌∷◌, length}
+use Rattle.bfd_pair.proofs.Common.{length-append, refl, sym, ap, ◌∙◌, arith, append_assoc, append-nil, Some, slice_get, both_ways}
+use Rattle.bfd_pair.proofs.Common.{fields_of, is_init_or_up, SessionConfig, Pair, started, Side, Left, Right, PairEvent, Give, End, Both}
+use Rattle.bfd_pair.proofs.Common.{side_of, packet_at, both_after, pair_run, turn, Heard, sent_by_then, drawn_state, nat_tests}
 use Rattle.bfd_p2p.specs.Machine.{made as pair_made}
 use Rattle.bfd_pair.proofs.Points.{IsPoint, run_point}
 use Rattle.bfd_pair.proofs.Packets.{each_at, Later, first_or_later}
@@ -72,7 +75,8 @@ more_sent {e} g =
 
 -- a packet that was sent before the event, or in it
 packet_then : {left right : SessionConfig} {side : Side} {past : List PairEvent} (event : PairEvent) {e e2 : End}
-    → Told left right side past e → (g : Grows e e2) → ((k : ℕ) (bytes : List ℕ) → Later e.sent g.more k bytes → is_init_or_up (fields_of bytes).state ≡ true
+    → Told left right side past e → (g : Grows e e2)
+    → ((k : ℕ) (bytes : List ℕ) → Later e.sent g.more k bytes → is_init_or_up (fields_of bytes).state ≡ true
     → HeardBy left right side (past ++ event ∷ []) k)
     → (k : ℕ) (bytes : List ℕ) → slice_get e2.sent k ≡ Some bytes → is_init_or_up (fields_of bytes).state ≡ true
     → HeardBy left right side (past ++ event ∷ []) k
@@ -136,7 +140,8 @@ pub record At (number : ℕ) (sent : List (List ℕ)) (bytes : List ℕ) : Type 
   pub below : place < number
   pub there : slice_get sent place ≡ Some bytes
 
-place_by : (number : ℕ) (sent : List (List ℕ)) {bytes : List ℕ} (zero : Bool) → (number == 0) ≡ zero → packet_at number sent ≡ Some bytes → At number sent bytes
+place_by : (number : ℕ) (sent : List (List ℕ)) {bytes : List ℕ} (zero : Bool) → (number == 0) ≡ zero → packet_at number sent ≡ Some bytes
+    → At number sent bytes
 place_by number sent true is found = absurd (cc)
 place_by number sent false is found = record {
   place = number - 1;
@@ -145,7 +150,8 @@ place_by number sent false is found = record {
 }
 
 -- a packet in Init or Up was sent after its sender had heard the other side
-pub packet_heard : (left right : SessionConfig) → IsPoint left → IsPoint right → (side : Side) (past : List PairEvent) (number : ℕ) {bytes : List ℕ}
+pub packet_heard : (left right : SessionConfig) → IsPoint left → IsPoint right
+    → (side : Side) (past : List PairEvent) (number : ℕ) {bytes : List ℕ}
     → packet_at number (side_of side (pair_run left right past)).sent ≡ Some bytes → is_init_or_up (fields_of bytes).state ≡ true
     → (heard : Heard left right side past) × (sent_by_then left right side past heard < number)
 packet_heard left right l r side past number {bytes} found warm =

@@ -1,8 +1,12 @@
 -- A packet that fails no test up to selection over a session's one row: the session takes it, and in Init or Up it names the session.
-use Rattle.bfd_pair.proofs.Common.{◌≡◌, ◌==◌, ◌&&◌, ◌||◌, ◌++◌, not, ℕ, Bool, true, false, List, [], ◌∷◌, refl, None, Some, if◌then◌else◌, arith, find, Arrival, Test, fields_of, is_init_or_up, Config, SessionConfig, Pair, Packet, discr_of, CanTake, arrival_to, screened, nat_tests, first_header_failing, first_table_failing, first_failing_on, is_multipoint, table_fails, tests_on_header, kind_of, row_of}
+use Rattle.bfd_pair.proofs.Common.{◌≡◌, ◌==◌, ◌&&◌, ◌||◌, ◌++◌, not, ℕ, Bool, true, false, List, [], ◌∷◌, refl, None, Some, if◌then◌else◌}
+use Rattle.bfd_pair.proofs.Common.{arith, find, Arrival, Test, fields_of, is_init_or_up, Config, SessionConfig, Pair, Packet, discr_of}
+use Rattle.bfd_pair.proofs.Common.{CanTake, arrival_to, screened, nat_tests, first_header_failing, first_table_failing, first_failing_on}
+use Rattle.bfd_pair.proofs.Common.{is_multipoint, table_fails, tests_on_header, kind_of, row_of}
 use Rattle.bfd_packet.specs.declared.arrival.Addr.{Addr}
 use Rattle.bfd_packet.specs.declared.arrival.Port.TheVariants.{Single as SinglePort, Multi as MultiPort}
-use Rattle.bfd_packet.specs.declared.discard.Test.TheVariants.{Short, Version, LengthMin, LengthOver, DetectMult, Multipoint, MyDiscr, YourUnknown, YourZeroState, NoSession, MultipointYour, NoTail}
+use Rattle.bfd_packet.specs.declared.discard.Test.TheVariants.{Short, Version, LengthMin, LengthOver, DetectMult, Multipoint, MyDiscr}
+use Rattle.bfd_packet.specs.declared.discard.Test.TheVariants.{YourUnknown, YourZeroState, NoSession, MultipointYour, NoTail}
 use Rattle.bfd_packet.specs.HeaderTests.{header_fails, first_failing}
 use Rattle.bfd_rules.specs.declared.config.Role.{Role}
 use Rattle.bfd_rules.specs.declared.config.Role.TheVariants.{Single, Multi}
@@ -31,26 +35,33 @@ single_plain discr iface local remote arrival true is h =
     absurd (never (cc))
 single_plain discr iface local remote arrival false is h = refl
 
-names_single : (discr iface : ℕ) (local remote : Addr) (arrival : Arrival) (m : Bool) → m ≡ false → is_init_or_up (fields_of arrival.payload).state ≡ true
+names_single : (discr iface : ℕ) (local remote : Addr) (arrival : Arrival) (m : Bool) → m ≡ false
+    → is_init_or_up (fields_of arrival.payload).state ≡ true
     → find (λ test. table_fails SinglePort test (row Single discr iface local remote ∷ []) arrival)
     (Short ∷ Version ∷ LengthMin ∷ LengthOver ∷ DetectMult ∷ MyDiscr ∷ []
-    ++ (if m then MultipointYour ∷ NoTail ∷ [] else YourUnknown ∷ YourZeroState ∷ NoSession ∷ [])) ≡ None → (fields_of arrival.payload).your ≡ discr
+    ++ (if m then MultipointYour ∷ NoTail ∷ [] else YourUnknown ∷ YourZeroState ∷ NoSession ∷ [])) ≡ None
+    → (fields_of arrival.payload).your ≡ discr
 names_single discr iface local remote arrival true plain state h = absurd (never plain)
 names_single discr iface local remote arrival false plain state h =
     let fails : Test → Bool = λ test. table_fails SinglePort test (row Single discr iface local remote ∷ []) arrival in
-    let zero = each_passes fails (Short ∷ Version ∷ LengthMin ∷ LengthOver ∷ DetectMult ∷ MyDiscr ∷ YourUnknown ∷ []) YourZeroState (NoSession ∷ []) h in
-    let unknown = each_passes fails (Short ∷ Version ∷ LengthMin ∷ LengthOver ∷ DetectMult ∷ MyDiscr ∷ []) YourUnknown (YourZeroState ∷ NoSession ∷ []) h in
+    let zero = each_passes fails (Short ∷ Version ∷ LengthMin ∷ LengthOver ∷ DetectMult ∷ MyDiscr ∷ YourUnknown ∷ []) YourZeroState
+    (NoSession ∷ []) h in
+    let unknown = each_passes fails (Short ∷ Version ∷ LengthMin ∷ LengthOver ∷ DetectMult ∷ MyDiscr ∷ []) YourUnknown
+    (YourZeroState ∷ NoSession ∷ []) h in
     named (fields_of arrival.payload).your discr (cc) unknown
 
 names_multi : (discr iface : ℕ) (local remote : Addr) (arrival : Arrival) → is_init_or_up (fields_of arrival.payload).state ≡ true
     → first_failing_on MultiPort (row Multi discr iface local remote ∷ []) arrival ≡ None → (fields_of arrival.payload).your ≡ discr
 names_multi discr iface local remote arrival state h =
     let fails : Test → Bool = λ test. table_fails MultiPort test (row Multi discr iface local remote ∷ []) arrival in
-    let zero = each_passes fails (Short ∷ Version ∷ LengthMin ∷ LengthOver ∷ DetectMult ∷ Multipoint ∷ MyDiscr ∷ YourUnknown ∷ []) YourZeroState (NoSession ∷ []) h in
-    let unknown = each_passes fails (Short ∷ Version ∷ LengthMin ∷ LengthOver ∷ DetectMult ∷ Multipoint ∷ MyDiscr ∷ []) YourUnknown (YourZeroState ∷ NoSession ∷ []) h in
+    let zero = each_passes fails (Short ∷ Version ∷ LengthMin ∷ LengthOver ∷ DetectMult ∷ Multipoint ∷ MyDiscr ∷ YourUnknown ∷ [])
+    YourZeroState (NoSession ∷ []) h in
+    let unknown = each_passes fails (Short ∷ Version ∷ LengthMin ∷ LengthOver ∷ DetectMult ∷ Multipoint ∷ MyDiscr ∷ []) YourUnknown
+    (YourZeroState ∷ NoSession ∷ []) h in
     named (fields_of arrival.payload).your discr (cc) unknown
 
-names_by : (role : Role) (discr iface : ℕ) (local remote : Addr) (arrival : Arrival) → is_init_or_up (fields_of arrival.payload).state ≡ true
+names_by : (role : Role) (discr iface : ℕ) (local remote : Addr) (arrival : Arrival)
+    → is_init_or_up (fields_of arrival.payload).state ≡ true
     → first_failing_on (port_of role) (row role discr iface local remote ∷ []) arrival ≡ None → (fields_of arrival.payload).your ≡ discr
 names_by Single discr iface local remote arrival state h = names_single discr iface local remote arrival _
     (single_plain discr iface local remote arrival _ refl h) state h
@@ -60,7 +71,8 @@ names_by Multi discr iface local remote arrival state h = names_multi discr ifac
 same_arrival : {a b : Arrival} → Some a ≡ Some b → a ≡ b
 same_arrival e = cc
 
-pub way_payload : (config : SessionConfig) (bytes : List ℕ) {arrival : Arrival} → arrival_to config bytes ≡ Some arrival → arrival.payload ≡ bytes
+pub way_payload : (config : SessionConfig) (bytes : List ℕ) {arrival : Arrival} → arrival_to config bytes ≡ Some arrival
+    → arrival.payload ≡ bytes
 way_payload (Pair c) bytes is = cc (same_arrival is)
 way_payload config bytes is = cc
 
@@ -77,7 +89,8 @@ names config bytes is state h = cc
 plain_by : (role : Role) (discr iface : ℕ) (local remote : Addr) (arrival : Arrival)
     → first_failing_on (port_of role) (row role discr iface local remote ∷ []) arrival ≡ None → (fields_of arrival.payload).multi ≡ false
 plain_by Single discr iface local remote arrival h = single_plain discr iface local remote arrival _ refl h
-plain_by Multi discr iface local remote arrival h = each_passes (λ test. table_fails MultiPort test (row Multi discr iface local remote ∷ []) arrival)
+plain_by Multi discr iface local remote arrival h =
+    each_passes (λ test. table_fails MultiPort test (row Multi discr iface local remote ∷ []) arrival)
     (Short ∷ Version ∷ LengthMin ∷ LengthOver ∷ DetectMult ∷ []) Multipoint (MyDiscr ∷ YourUnknown ∷ YourZeroState ∷ NoSession ∷ []) h
 
 header_by : (role : Role) (payload : List ℕ) → find (λ test. header_fails test payload) (tests_on_header (port_of role)) ≡ None

@@ -1,5 +1,7 @@
 -- The packets among outputs, and facts of each of them.
-use Rattle.bfd_pair.proofs.Common.{◌≡◌, ◌≤◌, ◌++◌, ◌⊎◌, inl, inr, ℕ, zero, suc, Bool, true, false, List, [], ◌∷◌, length, refl, ap, subst, arith, Some, if◌then◌else◌, slice_get, unwrap_or, Out, Vars, same_state, told, packets_among, Changed, Sent}
+use Rattle.bfd_pair.proofs.Common.{◌≡◌, ◌≤◌, ◌++◌, ◌⊎◌, inl, inr, ℕ, zero, suc, Bool, true, false, List, [], ◌∷◌, length, refl, ap, subst}
+use Rattle.bfd_pair.proofs.Common.{arith, Some, if◌then◌else◌, slice_get, unwrap_or, Out, Vars, same_state, told, packets_among, Changed}
+use Rattle.bfd_pair.proofs.Common.{Sent}
 
 pub packets-append : (xs ys : List Out) → packets_among (xs ++ ys) ≡ packets_among xs ++ packets_among ys
 packets-append [] ys = refl
@@ -41,7 +43,8 @@ pub record Later (xs ys : List (List ℕ)) (k : ℕ) (x : List ℕ) : Type 0 whe
   pub there : slice_get ys place ≡ Some x
 
 -- a packet stands in the first of two lists or in the second
-pub first_or_later : (xs ys : List (List ℕ)) (k : ℕ) {x : List ℕ} → slice_get (xs ++ ys) k ≡ Some x → (slice_get xs k ≡ Some x) ⊎ Later xs ys k x
+pub first_or_later : (xs ys : List (List ℕ)) (k : ℕ) {x : List ℕ} → slice_get (xs ++ ys) k ≡ Some x
+    → (slice_get xs k ≡ Some x) ⊎ Later xs ys k x
 first_or_later [] ys k e = inr (record { after = omega arith; place = k; there = e })
 first_or_later (y ∷ xs) ys zero e = inl e
 first_or_later (y ∷ xs) ys (suc k) e = elim (first_or_later xs ys k e) [

@@ -1,5 +1,7 @@
 -- An event leaves a pair of what the past, with it, makes.
-use Rattle.bfd_pair.proofs.Common.{◌≡◌, ◌≤◌, ◌++◌, ℕ, true, false, List, [], ◌∷◌, sym, ap, ◌∙◌, arith, greatest_tick, SessionConfig, Side, Left, Right, PairEvent, Peer, items_of, opened_side, pair_run, turn, IsHandshake, tells_up, is_up_after, seen, both_of, Pairing, pairing_of, IsPeer, IsPair}
+use Rattle.bfd_pair.proofs.Common.{◌≡◌, ◌≤◌, ◌++◌, ℕ, true, false, List, [], ◌∷◌, sym, ap, ◌∙◌, arith, greatest_tick, SessionConfig, Side}
+use Rattle.bfd_pair.proofs.Common.{Left, Right, PairEvent, Peer, items_of, opened_side, pair_run, turn, IsHandshake, tells_up, is_up_after}
+use Rattle.bfd_pair.proofs.Common.{seen, both_of, Pairing, pairing_of, IsPeer, IsPair}
 use Rattle.bfd_pair.proofs.Points.{IsPoint, way_point, turn_config}
 use Rattle.bfd_pair.proofs.Hearing.{run_more}
 use Rattle.bfd_pair.proofs.Handshakes.{handshakes, comes_up}
@@ -50,6 +52,7 @@ pair_start {l} {r} {left} {right} hl hr el er none = record {
   right_peer = hr;
   within = omega arith;
   run = ap (λ e. record { left = e; right = seen r; last = 0 }) el ∙ (ap (λ e. record { left = opened_side left; right = e; last = 0 }) er
-      ∙ (ap (λ c. pair_run c right []) (sym (ap (λ e. e.session.config) el)) ∙ (ap (λ c. pair_run l.session.config c []) (sym (ap (λ e. e.session.config) er))
+      ∙ (ap (λ c. pair_run c right []) (sym (ap (λ e. e.session.config) el))
+      ∙ (ap (λ c. pair_run l.session.config c []) (sym (ap (λ e. e.session.config) er))
       ∙ ap (λ es. pair_run l.session.config r.session.config es) (sym none))));
 }

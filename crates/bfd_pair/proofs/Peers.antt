@@ -1,5 +1,8 @@
 -- A side of the program as a side of the definitions.
-use Rattle.bfd_pair.proofs.Common.{◌≡◌, ◌≤◌, ◌<◌, ◌-◌, ◌++◌, ℕ, List, [], ◌∷◌, length, take, drop, ap, arith, None, Some, moment_bound, Arrival, Config, Out, SessionConfig, Pair, Packet, Running, IsFit, IsSound, CanTake, sound_by, started, Peer, arrival_to, packets_among, arrives, comes, seen, by_way, IsPeer, first_header_failing, first_table_failing, row_of}
+use Rattle.bfd_pair.proofs.Common.{◌≡◌, ◌≤◌, ◌<◌, ◌-◌, ◌++◌, ℕ, List, [], ◌∷◌, length, take, drop, ap, arith, None, Some, moment_bound}
+use Rattle.bfd_pair.proofs.Common.{Arrival, Config, Out, SessionConfig, Pair, Packet, Running, IsFit, IsSound, CanTake, sound_by, started}
+use Rattle.bfd_pair.proofs.Common.{Peer, arrival_to, packets_among, arrives, comes, seen, by_way, IsPeer, first_header_failing}
+use Rattle.bfd_pair.proofs.Common.{first_table_failing, row_of}
 use Rattle.std.proofs.lemmas.List.{take_all, length-drop}
 use Rattle.std.proofs.Math.Seq.{drop-append_seam}
 use Rattle.bfd_demux.specs.Rows.{build_fault}

@@ -27,7 +27,8 @@ starts is = record {
 -- a sum over the schedule and one event more
 sum_more : (count : PairEvent → PairTurn → ℕ) (seed e : ℕ) {sum sum2 : ℕ} (event : PairEvent) {w : Both}
     → sum ≡ total_of count seed (schedule seed e) → w ≡ run_of_seed seed (schedule seed e)
-    → schedule seed e ++ event ∷ [] ≡ schedule seed (suc e) → sum2 ≡ sum + count event (turn event w) → sum2 ≡ total_of count seed (schedule seed (suc e))
+    → schedule seed e ++ event ∷ [] ≡ schedule seed (suc e) → sum2 ≡ sum + count event (turn event w)
+    → sum2 ≡ total_of count seed (schedule seed (suc e))
 sum_more count seed e event before is past_is more = cc (total_more count seed (schedule seed e) event)
 
 draw_more : (seed e : ℕ) {before after : ℕ} → before ≡ draw seed e → after ≡ next_j before → after ≡ draw seed (suc e)
@@ -77,7 +78,8 @@ line_is seed e p t h =
     ap (λ q. line_with e (pair_run q.left q.right q.past) t.given t.rises) h.pair
     ∙ (ap (λ (n : ℕ). line_with n (run_of_seed seed (schedule seed e)) t.given t.rises) (sym (length_schedule seed e))
     ∙ (ap (λ (n : ℕ). line_with (length (schedule seed e)) (run_of_seed seed (schedule seed e)) n t.rises) h.given
-    ∙ ap (λ (n : ℕ). line_with (length (schedule seed e)) (run_of_seed seed (schedule seed e)) (total_of given_in seed (schedule seed e)) n) h.rises))
+    ∙ ap (λ (n : ℕ). line_with (length (schedule seed e)) (run_of_seed seed (schedule seed e)) (total_of given_in seed (schedule seed e)) n)
+    h.rises))
   where
     line_with : ℕ → Both → ℕ → ℕ → List ℕ
     line_with n w given rises = line_by n (sent_in w) given w.left.session.vars.state w.right.session.vars.state rises

@@ -1,7 +1,10 @@
 -- What every rule of a point-to-point session keeps, but for the state machine's answer to a packet in Init or Up: a fact of a
 -- session's state and its outputs which holds on where variables change and the state doesn't, where the state changes to one of the
 -- allowed ones and is told, and where a packet with the present state is sent.
-use Rattle.bfd_pair.proofs.Common.{◌≡◌, ◌⊎◌, inl, inr, ◌&&◌, ℕ, not, Bool, true, false, refl, ◌∙◌, is_some, if◌then◌else◌, floor_tick, Control, State, AdminDown, Down, Init, Up, SeqState, is_init_or_up, Cmd, Config, Mark, Vars, may_send, deadline, seq_deadline, is_idle, is_admin_down, Course, course, changes, sends, enters, tells, is_untold, based, drawn, redrawn, renewed_state, drawn_state, transmits}
+use Rattle.bfd_pair.proofs.Common.{◌≡◌, ◌⊎◌, inl, inr, ◌&&◌, ℕ, not, Bool, true, false, refl, ◌∙◌, is_some, if◌then◌else◌, floor_tick}
+use Rattle.bfd_pair.proofs.Common.{Control, State, AdminDown, Down, Init, Up, SeqState, is_init_or_up, Cmd, Config, Mark, Vars, may_send}
+use Rattle.bfd_pair.proofs.Common.{deadline, seq_deadline, is_idle, is_admin_down, Course, course, changes, sends, enters, tells, is_untold}
+use Rattle.bfd_pair.proofs.Common.{based, drawn, redrawn, renewed_state, drawn_state, transmits}
 use Rattle.bfd_num.specs.Due.{has_come}
 use Rattle.bfd_rules.specs.declared.commands.Cmd.TheVariants.{Disable, Enable, Reset}
 use Rattle.bfd_rules.specs.Renewal.{renewed}
@@ -34,7 +37,8 @@ module _ (P : Course → Type 0) (ok : State → Bool)
 
   pub moves_keeps : (discr eff : ℕ) (v : Vars) {s : Course} → Goes ok s.vars v → P s → P (moves discr eff v s)
   unfolding moves
-  moves_keeps discr eff v {s} to h = goes discr (renewed eff s.vars v) s (goes_by ok s.vars v (renewed eff s.vars v) (renewed_state eff s.vars v) to) h
+  moves_keeps discr eff v {s} to h = goes discr (renewed eff s.vars v) s
+      (goes_by ok s.vars v (renewed eff s.vars v) (renewed_state eff s.vars v) to) h
 
   silent_goes : (v : Vars) → Goes ok v (settling.goes_silent (settling.forgets_peer v))
   silent_goes v = by_state (is_init_or_up v.state)
@@ -49,16 +53,19 @@ module _ (P : Course → Type 0) (ok : State → Bool)
 
   sequence_keeps : (limit eff : ℕ) {s : Course} → P s → P (settling.sequence limit eff s)
   unfolding settling.sequence
-  sequence_keeps limit eff {s} h = either (has_come limit (seq_deadline s.vars)) (renews_keeps eff (settling.forgets_sequence s.vars) refl h) h
+  sequence_keeps limit eff {s} h = either (has_come limit (seq_deadline s.vars))
+      (renews_keeps eff (settling.forgets_sequence s.vars) refl h) h
 
   periodic_packet_keeps : (c : Config) (eff : ℕ) {s : Course} → P s → P (settling.periodic_packet c eff s)
   unfolding settling.periodic_packet transmits sends
   periodic_packet_keeps c eff {s} h =
-      renews_keeps eff _ refl (still (transmits c (not (is_idle s.vars.poll)) false s) s.vars (tells s.vars s.mark) refl (puts c (not (is_idle s.vars.poll)) false s h))
+      renews_keeps eff _ refl (still (transmits c (not (is_idle s.vars.poll)) false s) s.vars (tells s.vars s.mark) refl
+      (puts c (not (is_idle s.vars.poll)) false s h))
 
   periodic_keeps : (c : Config) (limit eff : ℕ) {s : Course} → P s → P (settling.periodic c limit eff s)
   unfolding settling.periodic
-  periodic_keeps c limit eff {s} h = either (has_come (floor_tick limit) s.vars.tx_due && may_send c.active s.vars) (periodic_packet_keeps c eff h) h
+  periodic_keeps c limit eff {s} h = either (has_come (floor_tick limit) s.vars.tx_due && may_send c.active s.vars)
+      (periodic_packet_keeps c eff h) h
 
   pub settle_keeps : (c : Config) (limit eff : ℕ) (s : Course) → P s → P (settling.settle c limit eff s)
   unfolding settling.settle
@@ -74,7 +81,8 @@ module _ (P : Course → Type 0) (ok : State → Bool)
 
   pub commanded_keeps : (c : Config) (eff : ℕ) (cmd : Cmd) (s : Course) → P s → P (commanded c eff cmd s)
   unfolding commanded
-  commanded_keeps c eff cmd s h = either (is_some (refusal c s.vars cmd)) h (moves_keeps c.discr eff (done c cmd s.vars) (done_goes c cmd s.vars) h)
+  commanded_keeps c eff cmd s h = either (is_some (refusal c s.vars cmd)) h
+      (moves_keeps c.discr eff (done c cmd s.vars) (done_goes c cmd s.vars) h)
 
   -- the end of an event
 

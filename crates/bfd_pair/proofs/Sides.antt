@@ -1,5 +1,9 @@
 -- What an event makes of one side: it handles a packet, or stays as cold as it was.
-use Rattle.bfd_pair.proofs.Common.{◌≡◌, ◌⊎◌, inl, inr, ◌++◌, ◌*◌, max, ℕ, Bool, true, false, List, [], refl, sym, ap, append-nil, length, Option, None, Some, Arrival, Test, is_init_or_up, Cmd, Packet, Command, Side, Left, Right, PairEvent, Tick, Give, Order, End, Both, Move, other, side_of, packets_among, packet_at, arrival_to, screened, own_move, judged_move, comes, given_packet, ticking, side_moves, turn, Answer, Handled, effective, step_outcome, tick_items}
+use Rattle.bfd_pair.proofs.Common.{◌≡◌, ◌⊎◌, inl, inr, ◌++◌, ◌*◌, max, ℕ, Bool, true, false, List, [], refl, sym, ap, append-nil, length}
+use Rattle.bfd_pair.proofs.Common.{Option, None, Some, Arrival, Test, is_init_or_up, Cmd, Packet, Command, Side, Left, Right, PairEvent}
+use Rattle.bfd_pair.proofs.Common.{Tick, Give, Order, End, Both, Move, other, side_of, packets_among, packet_at, arrival_to, screened}
+use Rattle.bfd_pair.proofs.Common.{own_move, judged_move, comes, given_packet, ticking, side_moves, turn, Answer, Handled, effective}
+use Rattle.bfd_pair.proofs.Common.{step_outcome, tick_items}
 use Rattle.bfd_pair.specs.declared.event.PairAnswer.TheVariants.{Did}
 use Rattle.bfd_pair.proofs.Points.{IsPoint}
 use Rattle.bfd_pair.proofs.Packets.{Each}
@@ -38,10 +42,14 @@ order_quiet moment last cmd e p = record {
 }
 
 packet_grows : (moment last : ℕ) (arrival : Arrival) (e : End) → Grows e (own_move moment last (Packet arrival) e).end
-packet_grows moment last arrival e = record { more = packets_among (step_outcome moment last (Packet arrival) e.session).items; appended = refl }
+packet_grows moment last arrival e = record {
+  more = packets_among (step_outcome moment last (Packet arrival) e.session).items;
+  appended = refl;
+}
 
 packet_quiet : (moment last : ℕ) (arrival : Arrival) (e : End) → IsPoint e.session.config
-    → is_handled (step_outcome moment last (Packet arrival) e.session).answer ≡ false → Quiet e (own_move moment last (Packet arrival) e).end
+    → is_handled (step_outcome moment last (Packet arrival) e.session).answer ≡ false
+    → Quiet e (own_move moment last (Packet arrival) e).end
 unfolding packet_grows
 packet_quiet moment last arrival e p refused = record {
   grows = packet_grows moment last arrival e;
@@ -87,7 +95,8 @@ by_arrival (Some arrival) moment last e p = by_test (screened e.session.config a
 by_packet : (w : Both) (side : Side) (moment number : ℕ) (found : Option (List ℕ)) → IsPoint (side_of side w).session.config
     → packet_at number (side_of (other side) w).sent ≡ found
     → Quiet (side_of side w) (given_packet found (length (side_of (other side) w).sent) moment w.last (side_of side w)).end
-    ⊎ Hears w (Give side moment number) side (side_of side w) (given_packet found (length (side_of (other side) w).sent) moment w.last (side_of side w)).end
+    ⊎ Hears w (Give side moment number) side (side_of side w)
+    (given_packet found (length (side_of (other side) w).sent) moment w.last (side_of side w)).end
 by_packet w side moment number None p is = inl (rests_quiet (side_of side w))
 by_packet w side moment number (Some bytes) p is =
     elim (by_arrival (arrival_to (side_of side w).session.config bytes) moment w.last (side_of side w) p) [

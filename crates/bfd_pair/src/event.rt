@@ -36,7 +36,7 @@ pub enum PairEvent {
 pub enum PairFault {
     /// The roles differ, or the local address of one side isn't the remote address of the other.
     NotPeers = 1,
-    /// There was no memory.
+    /// Out of memory.
     Memory = 2,
 }
 

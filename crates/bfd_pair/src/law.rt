@@ -7,7 +7,7 @@ ghost use Rattle.bfd_pair.specs.declared.event.PairEvent.{PairEvent};
 ghost use Rattle.bfd_pair.specs.Run.{items_of, pair_run, turn};
 ghost use Rattle.bfd_pair.specs.Handshake.{IsHandshake, tells_up, is_up_after};
 
-/// A law, and no work: whatever two point-to-point sessions and whatever has happened to them, where a side puts out a change to Up, the
+/// A law, and no work: whatever two point-to-point sessions and whatever has happened to them, where a side emits a change to Up, the
 /// event gives it a packet of the other side in Init or Up with its own discriminator as Your Discriminator; before, the other side handled
 /// a packet of this side; and the packet given isn't one that it had sent before that (RFC 5880 sections 6.2 and 6.8.6). Keys, commands,
 /// ticks, loss, repeats and order have no part in it.

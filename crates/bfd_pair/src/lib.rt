@@ -6,7 +6,7 @@
 //!
 //! It stands on `bfd_session` and `bfd_demux` and what those stand on, and on `bfd_script`, which spells a line. It promises that the
 //! sessions and the packets sent are those of the pair run, a fold of session steps without any of the program's bookkeeping, and the
-//! handshake: whatever the events, a side comes to Up only by a packet of the other side in Init or Up which names it and which was sent
+//! handshake: whatever the events, a side comes Up only by a packet of the other side in Init or Up which names it and which was sent
 //! when, or after, the other side handled a packet of this one.
 #![tactic(auto)]
 

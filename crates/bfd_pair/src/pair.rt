@@ -151,7 +151,7 @@ fn happen(
 }
 
 impl Pair {
-    /// Two sessions at the start, which know nothing of each other. NotPeers comes exactly where the roles differ or the local address of
+    /// Two sessions at the start, which know nothing of each other. NotPeers comes if and only if the roles differ or the local address of
     /// one isn't the remote address of the other, and is tested first; otherwise it fails only when out of memory. The configurations are
     /// within their ranges.
     pub fn make(alloc: Global, left: Config, right: Config) -> Result<Pair, PairFault>
@@ -180,8 +180,8 @@ impl Pair {
         })
     }
 
-    /// One event. It answers NoPacket with the count exactly where a Give names no packet of the other side, and then only the list of past
-    /// events grows. It adds at most ten outputs, Left's first. Room is made first; when out of memory it fails, and all is as before.
+    /// One event. It answers NoPacket with the count if and only if a Give names no packet of the other side, and then only the list of
+    /// past events grows. It adds at most ten outputs, Left's first. Room is made first; when out of memory it fails, and all is as before.
     pub fn step(&mut self, event: PairEvent, outs: &mut Outs) -> Result<PairAnswer, AllocError>
         requires room { 10 ≤ outs.old.spare }
         ensures past { OnOk result (self.new ≡ record self.old { past = self.old.past ++ event ∷ [] }) }

@@ -1,4 +1,4 @@
-//! One side: its session, how packets come to it, and all that it has sent.
+//! One side: its session, how packets reach it, and all that it has sent.
 ghost use Rattle.std.specs.Prelude.{◌≡◌, ◌<◌, ◌≤◌, ◌+◌, ◌*◌, ◌++◌, ◌∷◌, [], ℕ, List, max, length, drop, vec_len, vec_capacity, IfOk, OnOk, OnErr, None, Some, MatchOption};
 ghost use Rattle.std.specs.Result.{result_err};
 ghost use Rattle.bfd_num.specs.Numbers.{moment_bound, greatest_tick};
@@ -11,6 +11,7 @@ ghost use Rattle.bfd_session.specs.Rows as rows;
 ghost use Rattle.bfd_pair.specs.Run.{arrival_to, packets_among, packet_at};
 ghost use Rattle.bfd_pair.specs.Run as run;
 ghost use Rattle.bfd_pair.specs.Inside.{seen, by_way, IsPeer};
+ghost use Rattle.bfd_num.specs.Counting.{IsBlankOf};
 
 use crate::PairAnswer;
 use bfd_demux::{BuildFault, Demux, Target};
@@ -23,7 +24,7 @@ use std::alloc::{AllocError, Global};
 use std::marker::Brand;
 use std::sync::ledger::{Blank, Ledger};
 
-/// How packets come to a side.
+/// How packets reach a side.
 #[derive(Clone, Copy)]
 pub(crate) struct Way {
     pub(crate) port: Port,
@@ -54,7 +55,7 @@ fn table(alloc: Global, config: &SessionConfig) -> Result<Demux, AllocError>
     }
 }
 
-/// How packets come to a session of this configuration.
+/// How packets reach a session of this configuration.
 fn way_to(config: &Config) -> Way
     ensures { (bytes : List ℕ) → arrival_to (PairOf config.now) bytes ≡ Some (by_way result bytes) }
 {
@@ -165,7 +166,7 @@ pub(crate) fn own_move(
     answer
 }
 
-/// A packet as it comes to a side. Fails only when out of memory.
+/// A packet as it reaches a side. Fails only when out of memory.
 #[tactic(auto, using(crate::proofs::Peers::whole))]
 fn arrival(alloc: Global, way: &Way, wire: &Wire) -> Result<Arrival, AllocError>
     ensures { IfOk result (λ a. a ≡ by_way way.now wire.now) }
@@ -184,16 +185,14 @@ fn arrival(alloc: Global, way: &Way, wire: &Wire) -> Result<Arrival, AllocError>
 
 /// What the arrival is for, or the first of the tests up to selection that it fails, with a counter of steps of its own.
 fn screened<L: Ledger>(table: &Demux, arrival: &Arrival, blank: Blank) -> Result<Target, Test>
-    requires name { blank.name ≡ L.name }
-    requires parts { blank.parts ≡ L.parts }
-    requires some { 0 < blank.parts }
+    requires blank { IsBlankOf L.name L.parts blank.name blank.parts }
     ensures tests { result_err result ≡ first_table_failing table.now arrival.now }
     ensures header { OnOk result (first_header_failing arrival.now ≡ None) }
 {
     table.screen(arrival, &mut Steps::<L>::new(blank))
 }
 
-/// A packet comes to a side.
+/// A packet reaches a side.
 #[tactic(auto, using(crate::proofs::Peers::takes_packet))]
 fn receive(peer: &mut Peer, last: u64, moment: u64, arrival: Arrival, outs: &mut Outs) -> PairAnswer
     requires peer { IsPeer peer.old }

@@ -1,5 +1,6 @@
 -- What an arrival comes to, as a route.
-use Rattle.bfd_replay.proofs.PlanCommon.{◌≡◌, ℕ, List, [], ◌∷◌, Option, Some, Result, Ok, Err, slice_get, Reflector, SessionConfig, Apart, happening_by, reflecting}
+use Rattle.bfd_replay.proofs.PlanCommon.{◌≡◌, ℕ, List, [], ◌∷◌, Option, Some, Result, Ok, Err, slice_get, Reflector, SessionConfig, Apart}
+use Rattle.bfd_replay.proofs.PlanCommon.{happening_by, reflecting}
 use Rattle.bfd_packet.specs.declared.arrival.Arrival.{Arrival}
 use Rattle.bfd_packet.specs.declared.arrival.Datagram.{Datagram}
 use Rattle.bfd_packet.specs.declared.discard.Test.{Test}
@@ -15,12 +16,14 @@ use Rattle.bfd_script.specs.Doing.{Happens, arriving}
 use Rattle.bfd_replay.specs.Planned.{resting}
 
 module _ (cs : List SessionConfig) (pool : List Reflector) (arrival : Arrival) (moment : ℕ) where
-  pub discarded : (d : Destination) {test : Test} → IsComing cs pool arrival d (coming.Discarded test) → Apart (resting (Dropped test)) ≡ happening_by pool (arriving moment arrival d)
+  pub discarded : (d : Destination) {test : Test} → IsComing cs pool arrival d (coming.Discarded test)
+      → Apart (resting (Dropped test)) ≡ happening_by pool (arriving moment arrival d)
   discarded (Discarded t) h = cc
   discarded (Own place event) h = absurd (let e = h.0 in cc)
   discarded (Reflected place) {test} h = by (slice_get pool place) (reflect pool arrival) h.0
     where
-      by : (o : Option Reflector) (r : Result Datagram Test) → coming.Discarded test ≡ answered_as (fields_of arrival.payload).your r → Apart (resting (Dropped test)) ≡ Apart (reflecting o r)
+      by : (o : Option Reflector) (r : Result Datagram Test) → coming.Discarded test ≡ answered_as (fields_of arrival.payload).your r
+          → Apart (resting (Dropped test)) ≡ Apart (reflecting o r)
       by o (Err t) e = cc
       by o (Ok datagram) e = absurd (cc)
 

@@ -1,5 +1,8 @@
 -- One event more is told.
-use Rattle.bfd_replay.proofs.StreamCommon.{◌≡◌, ◌+◌, ◌++◌, ◌∙◌, ℕ, List, [], ◌∷◌, length, Option, ap, refl, sym, subst, append_assoc, append-nil, arith, Appends, Line, Outcome, done_line, dropped, event_lines, lines_from, packets_sent, report, Happening, happening, happenings, happening_outcomes, ToldUpTo, Telling, TookFront, TookUpTo, front_of_longer, none_taken, took_front, took_of_longer, took_on, took_rest}
+use Rattle.bfd_replay.proofs.StreamCommon.{◌≡◌, ◌+◌, ◌++◌, ◌∙◌, ℕ, List, [], ◌∷◌, length, Option, ap, refl, sym, subst, append_assoc}
+use Rattle.bfd_replay.proofs.StreamCommon.{append-nil, arith, Appends, Line, Outcome, done_line, dropped, event_lines, lines_from}
+use Rattle.bfd_replay.proofs.StreamCommon.{packets_sent, report, Happening, happening, happenings, happening_outcomes, ToldUpTo, Telling}
+use Rattle.bfd_replay.proofs.StreamCommon.{TookFront, TookUpTo, front_of_longer, none_taken, took_front, took_of_longer, took_on, took_rest}
 use Rattle.std.specs.Prelude.{◌<◌, ◌≤◌, sum_by}
 use Rattle.bfd_shard.specs.Dealing.{history_of}
 use Rattle.std.specs.List.{cons_option, filter_map}
@@ -33,42 +36,51 @@ told_on {first} {next} {last} {start} {told} {after} {all} {some} {rest} so_far 
 nothing_told : (now : Option (List ℕ)) (told : Telling) (os : List Outcome) → ToldUpTo now now told told os os
 nothing_told now told os = record { lines = none_taken now _; events = refl; txs = refl; drops = refl }
 
-past_on : (past : List ShardEvent) (h : Happening) (rest : List ShardEvent) → past_after past h ++ rest ≡ past ++ cons_option (session_event h) rest
+past_on : (past : List ShardEvent) (h : Happening) (rest : List ShardEvent)
+    → past_after past h ++ rest ≡ past ++ cons_option (session_event h) rest
 past_on past (Apart outcome) rest = cc (append-nil past)
 past_on past (Among event) rest = append_assoc past (event ∷ []) rest
 
 -- an event's lines stand behind the text, before those of the others
-lines_split : (text told : List ℕ) (n : ℕ) (o : Outcome) (all os : List Outcome) → all ≡ o ∷ os → told ≡ text ++ event_lines n o
-    → text ++ lines_from n all ≡ told ++ lines_from (n + 1) os
-lines_split text told n o all os split added = cc (append_assoc text (event_lines n o) (lines_from (n + 1) os))
+lines_split : (text : List ℕ) (n : ℕ) (o : Outcome) (os : List Outcome)
+    → text ++ lines_from n (o ∷ os) ≡ (text ++ event_lines n o) ++ lines_from (n + 1) os
+lines_split text n o os = cc (append_assoc text (event_lines n o) (lines_from (n + 1) os))
 
-pub event_front : (old new : Option (List ℕ)) (before told : Telling) {o : Outcome} {all os : List Outcome} → all ≡ o ∷ os
-    → told.text ≡ before.text ++ event_lines (before.events + 1) o → TookFront old new told.text → TookFront old new (before.text ++ lines_from (before.events + 1) all)
-event_front old new before told {o} {all} {os} split text took =
-    subst (TookFront old new) (sym (lines_split before.text told.text (before.events + 1) o all os split text))
+pub event_front : (old new : Option (List ℕ)) (before : Telling) (o : Outcome) (os : List Outcome)
+    → TookFront old new (before.text ++ event_lines (before.events + 1) o)
+    → TookFront old new (before.text ++ lines_from (before.events + 1) (o ∷ os))
+event_front old new before o os took =
+    subst (TookFront old new) (sym (lines_split before.text (before.events + 1) o os))
     (front_of_longer old new _ (lines_from (before.events + 1 + 1) os) took)
 
-pub event_told : (old new : Option (List ℕ)) (before told after : Telling) (o : Outcome) → told.text ≡ before.text ++ event_lines (before.events + 1) o → told.events ≡ before.events + 1
-    → told.txs ≡ before.txs + packets_sent o → told.drops ≡ before.drops + dropped o → after.events ≡ told.events → after.txs ≡ told.txs → after.drops ≡ told.drops
-    → TookUpTo old new told.text after.text → (rest : List Outcome) → ToldUpTo old new before after (o ∷ rest) rest
-event_told old new before told after o text events txs drops events2 txs2 drops2 took rest = record {
-  lines = subst (λ t. TookUpTo old new t (after.text ++ lines_from (after.events + 1) rest)) (sym (lines_split before.text told.text (before.events + 1) o (o ∷ rest) rest refl text))
-      (rw (events2, events) (took_of_longer old new told.text after.text (lines_from (before.events + 1 + 1) rest) took));
-  events = omega (arith, events, events2);
-  txs = omega (arith, txs, txs2, sum_by-cons packets_sent o rest);
-  drops = omega (arith, drops, drops2, sum_by-cons dropped o rest);
+pub event_told : (old new : Option (List ℕ)) (before after : Telling) (o : Outcome) → after.events ≡ before.events + 1
+    → after.txs ≡ before.txs + packets_sent o → after.drops ≡ before.drops + dropped o
+    → TookUpTo old new (before.text ++ event_lines (before.events + 1) o) after.text → (rest : List Outcome)
+    → ToldUpTo old new before after (o ∷ rest) rest
+event_told old new before after o events txs drops took rest = record {
+  lines = subst (λ t. TookUpTo old new t (after.text ++ lines_from (after.events + 1) rest))
+      (sym (lines_split before.text (before.events + 1) o rest))
+      (rw events (took_of_longer old new _ after.text (lines_from (before.events + 1 + 1) rest) took));
+  events = omega (arith, events);
+  txs = omega (arith, txs, sum_by-cons packets_sent o rest);
+  drops = omega (arith, drops, sum_by-cons dropped o rest);
 }
 
 -- what was told of a script so far by caller 0, if it is the engine's only one
-pub record IsTelling (engine : Shards) (lines left : List Line) (l : Knows) (old now : Option (List ℕ)) (before after : Telling) : Type 0 where
+pub record IsTelling (engine : Shards) (lines left : List Line) (l : Knows) (old now : Option (List ℕ))
+    (before after : Telling) : Type 0 where
   pub past : List ShardEvent
   pub short : length past + length left ≤ length lines
-  pub whole : past ++ filter_map session_event (happenings engine.configs engine.pool left) ≡ filter_map session_event (happenings engine.configs engine.pool lines)
-  pub seen : (r : ℕ) → r < length engine.locks → IsSole 0 (seen_at l r) → seen_at l r ≡ entries_by 0 (history_of (length engine.locks) r past)
-  pub told : AllSole (length engine.locks) l → ToldUpTo old now before after (outcomes_on engine (happenings engine.configs engine.pool lines))
+  pub whole : past ++ filter_map session_event (happenings engine.configs engine.pool left)
+      ≡ filter_map session_event (happenings engine.configs engine.pool lines)
+  pub seen : (r : ℕ) → r < length engine.locks → IsSole 0 (seen_at l r)
+      → seen_at l r ≡ entries_by 0 (history_of (length engine.locks) r past)
+  pub told : AllSole (length engine.locks) l → ToldUpTo old now before after
+      (outcomes_on engine (happenings engine.configs engine.pool lines))
       (happening_outcomes (last_tick past) (happenings engine.configs engine.pool left) (runs past engine.configs))
 
-pub telling_none : {engine : Shards} (lines : List Line) {left : List Line} {k : Knows} (now : Option (List ℕ)) (told : Telling) → left ≡ lines → IsNewPass engine k
+pub telling_none : {engine : Shards} (lines : List Line) {left : List Line} {k : Knows} (now : Option (List ℕ)) (told : Telling)
+    → left ≡ lines → IsNewPass engine k
     → IsTelling engine lines left k now now told told
 telling_none {engine} lines {left} {k} now told same new = record {
   past = [];
@@ -76,17 +88,20 @@ telling_none {engine} lines {left} {k} now told same new = record {
   whole = ap (λ ls. filter_map session_event (happenings engine.configs engine.pool ls)) same;
   seen = λ r inside s. new.seen r inside;
   told = λ s. rw (ap (λ ls. happening_outcomes (last_tick []) (happenings engine.configs engine.pool ls) (runs [] engine.configs)) same
-      ∙ outcomes_none engine.configs (happenings engine.configs engine.pool lines)) (nothing_told now told (outcomes_on engine (happenings engine.configs engine.pool lines)));
+      ∙ outcomes_none engine.configs (happenings engine.configs engine.pool lines))
+      (nothing_told now told (outcomes_on engine (happenings engine.configs engine.pool lines)));
 }
 
-module _ {engine : Shards} {lines left rest : List Line} {line : Line} {l : Knows} {old now : Option (List ℕ)} {before told : Telling} (split : left ≡ line ∷ rest)
+module _ {engine : Shards} {lines left rest : List Line} {line : Line} {l : Knows} {old now : Option (List ℕ)} {before told : Telling}
+    (split : left ≡ line ∷ rest)
     (t : IsTelling engine lines left l old now before told) where
   abbrev h : Happening
   h = happening engine.configs engine.pool line
 
   -- what the lines give that are left when this one was told
   abbrev later : List Outcome
-  later = happening_outcomes (last_tick (past_after t.past h)) (happenings engine.configs engine.pool rest) (runs (past_after t.past h) engine.configs)
+  later = happening_outcomes (last_tick (past_after t.past h)) (happenings engine.configs engine.pool rest)
+      (runs (past_after t.past h) engine.configs)
 
   outcomes_split : outcome_in (last_tick t.past) h (runs t.past engine.configs) ∷ later
       ≡ happening_outcomes (last_tick t.past) (happenings engine.configs engine.pool left) (runs t.past engine.configs)
@@ -98,7 +113,8 @@ module _ {engine : Shards} {lines left rest : List Line} {line : Line} {l : Know
 
   pub telling_next : {m : Knows} {next : Option (List ℕ)} {after : Telling}
       → ((r : ℕ) → r < length engine.locks → Went l m (brought (length engine.locks) (happening engine.configs engine.pool line) r) r)
-      → HasToldEvent engine (happening engine.configs engine.pool line) l m now next told after → IsTelling engine lines rest m old next before after
+      → HasToldEvent engine (happening engine.configs engine.pool line) l m now next told after
+      → IsTelling engine lines rest m old next before after
   telling_next {m} {next} {after} w more =
       let n = length engine.locks in
       let earlier : AllSole n m → AllSole n l = λ s r inside. (w r inside).sole (s r inside) in
@@ -107,37 +123,53 @@ module _ {engine : Shards} {lines left rest : List Line} {line : Line} {l : Know
         short = omega (arith, t.short, past_few t.past h, ap length split);
         whole = past_on t.past h (filter_map session_event (happenings engine.configs engine.pool rest))
             ∙ (ap (λ ls. t.past ++ filter_map session_event (happenings engine.configs engine.pool ls)) (sym split) ∙ t.whole);
-        seen = λ r inside s. cc ((w r inside).seen s, t.seen r inside ((w r inside).sole s), history_after n r t.past h, entries_both (history_of n r t.past) (brought n h r));
-        told = λ s. told_on (t.told (earlier s)) (subst (λ os. ToldUpTo now next told after os later) outcomes_split (more s t.past (stands (earlier s)) later));
+        seen = λ r inside s. cc (
+          (w r inside).seen s,
+          t.seen r inside ((w r inside).sole s),
+          history_after n r t.past h,
+          entries_both (history_of n r t.past) (brought n h r),
+        );
+        told = λ s. told_on (t.told (earlier s)) (subst (λ os. ToldUpTo now next told after os later) outcomes_split
+            (more s t.past (stands (earlier s)) later));
       }
 
   pub telling_front : {times : ℕ} (m : Knows) (next : Option (List ℕ)) → HasKept times l m
       → HasToldFront engine (happening engine.configs engine.pool line) l m now next told → AllSole (length engine.locks) m
-      → TookFront old next (before.text ++ lines_from (before.events + 1) (outcomes_on engine (happenings engine.configs engine.pool lines)))
+      → TookFront old next (before.text ++ lines_from (before.events + 1)
+      (outcomes_on engine (happenings engine.configs engine.pool lines)))
   telling_front m next kept more s =
       let earlier : AllSole (length engine.locks) l = λ r inside. earlier_sole r kept (s r inside) in
       took_front old now next _ _ (t.told earlier).lines
-      (subst (λ os. TookFront now next (told.text ++ lines_from (told.events + 1) os)) outcomes_split (more s t.past (stands earlier) later))
+      (subst (λ os. TookFront now next (told.text ++ lines_from (told.events + 1) os)) outcomes_split
+      (more s t.past (stands earlier) later))
 
   pub telling_stopped : (m : Knows) (stop : Stop) → length lines ≤ engine.limit → IsEventStop engine l m stop → IsStop engine m stop
   telling_stopped m (Unwritten fault) limit e = tt
-  telling_stopped m (Refused fault) limit e = cut_short engine l m t.past (length lines) fault (omega (arith, t.short, ap length split)) limit t.seen e
+  telling_stopped m (Refused fault) limit e = cut_short engine l m t.past (length lines) fault (omega (arith, t.short, ap length split))
+      limit t.seen e
 
 -- the end: nothing is left
-module _ {engine : Shards} {lines left : List Line} {l : Knows} {old now : Option (List ℕ)} {before told : Telling} (none : left ≡ []) (t : IsTelling engine lines left l old now before told) where
+module _ {engine : Shards} {lines left : List Line} {l : Knows} {old now : Option (List ℕ)} {before told : Telling} (none : left ≡ [])
+    (t : IsTelling engine lines left l old now before told) where
   pub telling_brought : HasBrought engine (happenings engine.configs engine.pool lines) l
-  telling_brought s r inside = t.seen r inside (s r inside) ∙ ap (λ es. entries_by 0 (history_of (length engine.locks) r es)) (sym (append-nil t.past)
+  telling_brought s r inside = t.seen r inside (s r inside)
+      ∙ ap (λ es. entries_by 0 (history_of (length engine.locks) r es)) (sym (append-nil t.past)
       ∙ (ap (λ ls. t.past ++ filter_map session_event (happenings engine.configs engine.pool ls)) (sym none) ∙ t.whole))
 
-  pub telling_all : AllSole (length engine.locks) l → ToldUpTo old now before told (outcomes_on engine (happenings engine.configs engine.pool lines)) []
-  telling_all s = subst (λ ls. ToldUpTo old now before told (outcomes_on engine (happenings engine.configs engine.pool lines)) (happening_outcomes (last_tick t.past) (happenings engine.configs engine.pool ls) (runs t.past engine.configs))) none (t.told s)
+  pub telling_all : AllSole (length engine.locks) l
+      → ToldUpTo old now before told (outcomes_on engine (happenings engine.configs engine.pool lines)) []
+  telling_all s = subst (λ ls. ToldUpTo old now before told (outcomes_on engine (happenings engine.configs engine.pool lines))
+      (happening_outcomes (last_tick t.past) (happenings engine.configs engine.pool ls) (runs t.past engine.configs))) none (t.told s)
 
-  pub telling_end : AllSole (length engine.locks) l → TookFront old now (before.text ++ lines_from (before.events + 1) (outcomes_on engine (happenings engine.configs engine.pool lines)))
+  pub telling_end : AllSole (length engine.locks) l
+      → TookFront old now (before.text ++ lines_from (before.events + 1) (outcomes_on engine (happenings engine.configs engine.pool lines)))
   telling_end s = (told.text ++ lines_from (told.events + 1) [], (telling_all s).lines)
 
 -- the report of all events, where nothing was told at first
-module _ (old mid new : Option (List ℕ)) (start told : Telling) (os : List Outcome) (text : start.text ≡ []) (events : start.events ≡ 0) (txs : start.txs ≡ 0) (drops : start.drops ≡ 0) where
-  report_is : report os ≡ (start.text ++ lines_from (start.events + 1) os) ++ done_line (start.events + length os) (start.txs + sum_by packets_sent os) (start.drops + sum_by dropped os)
+module _ (old mid new : Option (List ℕ)) (start told : Telling) (os : List Outcome) (text : start.text ≡ []) (events : start.events ≡ 0)
+    (txs : start.txs ≡ 0) (drops : start.drops ≡ 0) where
+  report_is : report os ≡ (start.text ++ lines_from (start.events + 1) os)
+      ++ done_line (start.events + length os) (start.txs + sum_by packets_sent os) (start.drops + sum_by dropped os)
   report_is =
       let n : start.events + 1 ≡ 1 = omega (arith, events) in
       let e : start.events + length os ≡ length os = omega (arith, events) in
@@ -145,7 +177,8 @@ module _ (old mid new : Option (List ℕ)) (start told : Telling) (os : List Out
       let d : start.drops + sum_by dropped os ≡ sum_by dropped os = omega (arith, drops) in
       rw (text, n, e, t, d) refl
 
-  last_is : ToldUpTo old mid start told os [] → done_line (start.events + length os) (start.txs + sum_by packets_sent os) (start.drops + sum_by dropped os) ≡ done_line told.events told.txs told.drops
+  last_is : ToldUpTo old mid start told os [] → done_line (start.events + length os) (start.txs + sum_by packets_sent os)
+      (start.drops + sum_by dropped os) ≡ done_line told.events told.txs told.drops
   last_is all =
       let e : start.events + length os ≡ told.events = omega (arith, all.events) in
       let t : start.txs + sum_by packets_sent os ≡ told.txs = omega (arith, all.txs) in
@@ -159,18 +192,22 @@ module _ (old mid new : Option (List ℕ)) (start told : Telling) (os : List Out
       let is : report os ≡ lines ++ last = cc (report_is, last_is all) in
       rw is (rw (← append-nil told.text) (took_of_longer old mid _ _ last all.lines))
 
-  pub report_whole : ToldUpTo old mid start told os [] → Appends mid new (told.text ++ done_line told.events told.txs told.drops) → Appends old new (report os)
+  pub report_whole : ToldUpTo old mid start told os [] → Appends mid new (told.text ++ done_line told.events told.txs told.drops)
+      → Appends old new (report os)
   report_whole all now = took_rest old mid new _ _ (left_to_write all) now
 
-  pub report_front : ToldUpTo old mid start told os [] → TookFront mid new (told.text ++ done_line told.events told.txs told.drops) → TookFront old new (report os)
+  pub report_front : ToldUpTo old mid start told os [] → TookFront mid new (told.text ++ done_line told.events told.txs told.drops)
+      → TookFront old new (report os)
   report_front all now = took_front old mid new _ _ (left_to_write all) now
 
   -- where the events' lines broke off
   pub lines_front : TookFront old new (start.text ++ lines_from (start.events + 1) os) → TookFront old new (report os)
   lines_front took = subst (TookFront old new) (sym report_is)
-      (front_of_longer old new _ (done_line (start.events + length os) (start.txs + sum_by packets_sent os) (start.drops + sum_by dropped os)) took)
+      (front_of_longer old new _ (done_line (start.events + length os) (start.txs + sum_by packets_sent os)
+      (start.drops + sum_by dropped os)) took)
 
-pub counts_told : {old mid : Option (List ℕ)} (start told : Telling) (os : List Outcome) → start.events ≡ 0 → start.txs ≡ 0 → start.drops ≡ 0 → ToldUpTo old mid start told os []
+pub counts_told : {old mid : Option (List ℕ)} (start told : Telling) (os : List Outcome) → start.events ≡ 0 → start.txs ≡ 0
+    → start.drops ≡ 0 → ToldUpTo old mid start told os []
     → (let c : Counts = record { events = told.events; txs = told.txs; drops = told.drops } in c) ≡ counts_of os
 counts_told start told os events txs drops all =
     let e : told.events ≡ length os = omega (arith, all.events, events) in

@@ -1,5 +1,8 @@
 -- A part's marks and text, as pieces are told and taken.
-use Rattle.bfd_replay.proofs.ReportCommon.{◌≡◌, ◌≤◌, ◌+◌, ◌++◌, ℕ, List, [], ◌∷◌, length, drop, map, Result, Ok, Err, OnOk, OnErr, refl, ap, ◌∙◌, append-nil, arith, length-append, length-drop, AllByRecursion, take-append-le, drop-append-le, sum_by-append, sum_by-cons, Out, Outcome, Mark, Piece, texts, whole_piece, item_piece, pieces_at, mark_of, IsPart, sum_by, each_more, item_some}
+use Rattle.bfd_replay.proofs.ReportCommon.{◌≡◌, ◌≤◌, ◌+◌, ◌++◌, ℕ, List, [], ◌∷◌, length, drop, map, Result, Ok, Err, OnOk, OnErr, refl, ap}
+use Rattle.bfd_replay.proofs.ReportCommon.{◌∙◌, append-nil, arith, length-append, length-drop, AllByRecursion, take-append-le}
+use Rattle.bfd_replay.proofs.ReportCommon.{drop-append-le, sum_by-append, sum_by-cons, Out, Outcome, Mark, Piece, texts, whole_piece}
+use Rattle.bfd_replay.proofs.ReportCommon.{item_piece, pieces_at, mark_of, IsPart, sum_by, each_more, item_some}
 use Rattle.std.proofs.Math.Seq.{take-append_seam, drop-append_seam}
 use Rattle.bfd_replay.proofs.Sizes.{event_some}
 
@@ -15,17 +18,23 @@ long_of ms = sum_by (λ m. m.long) ms
 pieces_back : (ps : List Piece) → pieces_at (map mark_of ps) (texts ps) ≡ ps
 pieces_back [] = refl
 pieces_back (p ∷ ps) =
-    ap (λ t. record { key = p.key; text = t; txs = p.txs; drops = p.drops } ∷ pieces_at (map mark_of ps) (drop (length p.text) (texts (p ∷ ps)))) (take-append_seam p.text (texts ps))
+    ap (λ t. record { key = p.key; text = t; txs = p.txs; drops = p.drops } ∷ pieces_at (map mark_of ps)
+    (drop (length p.text) (texts (p ∷ ps)))) (take-append_seam p.text (texts ps))
     ∙ (ap (λ t. p ∷ pieces_at (map mark_of ps) t) (drop-append_seam p.text (texts ps)) ∙ ap (λ qs. p ∷ qs) (pieces_back ps))
 
 -- marks that have all the text, and others behind them
-pub pieces_append : (ms ns : List Mark) (t u : List ℕ) → long_of ms ≡ length t → pieces_at (ms ++ ns) (t ++ u) ≡ pieces_at ms t ++ pieces_at ns u
+pub pieces_append : (ms ns : List Mark) (t u : List ℕ) → long_of ms ≡ length t
+    → pieces_at (ms ++ ns) (t ++ u) ≡ pieces_at ms t ++ pieces_at ns u
 pieces_append [] ns [] u h = refl
 pieces_append [] ns (x ∷ t) u h = absurd (omega (arith, h))
 pieces_append (m ∷ ms) ns t u h =
     let s = sum_by-cons (λ n. n.long) m ms in
     let fits : m.long ≤ length t = omega (arith, h, s) in
-    cc (take-append-le m.long t u fits, drop-append-le m.long t u fits, pieces_append ms ns (drop m.long t) u (omega (arith, h, s, length-drop m.long t)))
+    cc (
+      take-append-le m.long t u fits,
+      drop-append-le m.long t u fits,
+      pieces_append ms ns (drop m.long t) u (omega (arith, h, s, length-drop m.long t)),
+    )
 
 -- marks have all of their pieces' text
 long_marks : (ps : List Piece) → long_of (map mark_of ps) ≡ length (texts ps)
@@ -39,7 +48,8 @@ all_append [] (p ∷ ps) h k = (k.0, all_append [] ps tt k.1)
 all_append (m ∷ ms) ps h k = (h.0, all_append ms ps h.1 k)
 
 -- a part where these pieces more were told
-part_more : (ms ms2 : List Mark) (t t2 : List ℕ) (ps : List Piece) → IsPart ms t → ms2 ≡ ms ++ map mark_of ps → t2 ≡ t ++ texts ps → AllByRecursion HasText ps → IsPart ms2 t2
+part_more : (ms ms2 : List Mark) (t t2 : List ℕ) (ps : List Piece) → IsPart ms t → ms2 ≡ ms ++ map mark_of ps → t2 ≡ t ++ texts ps
+    → AllByRecursion HasText ps → IsPart ms2 t2
 part_more ms ms2 t t2 ps s m e k =
     rw m (rw e (record {
       whole = omega (arith, s.whole, length-append t (texts ps), long_marks ps, sum_by-append (λ n. n.long) ms (map mark_of ps));
@@ -47,7 +57,8 @@ part_more ms ms2 t t2 ps s m e k =
     }))
 
 -- and what it tells then
-told_more : (ms ms2 : List Mark) (t t2 : List ℕ) (ps : List Piece) → IsPart ms t → ms2 ≡ ms ++ map mark_of ps → t2 ≡ t ++ texts ps → pieces_at ms2 t2 ≡ pieces_at ms t ++ ps
+told_more : (ms ms2 : List Mark) (t t2 : List ℕ) (ps : List Piece) → IsPart ms t → ms2 ≡ ms ++ map mark_of ps → t2 ≡ t ++ texts ps
+    → pieces_at ms2 t2 ≡ pieces_at ms t ++ ps
 told_more ms ms2 t t2 ps s m e = cc (pieces_append ms (map mark_of ps) t (texts ps) s.whole, pieces_back ps)
 
 -- a part where all of another was told behind it
@@ -58,7 +69,8 @@ part_both ms ms2 ns t t2 u s l m e =
       counts = each_more (λ n. n.txs + n.drops ≤ n.long) ms ns s.counts l.counts;
     }))
 
-told_both : (ms ms2 ns : List Mark) (t t2 u : List ℕ) → IsPart ms t → ms2 ≡ ms ++ ns → t2 ≡ t ++ u → pieces_at ms2 t2 ≡ pieces_at ms t ++ pieces_at ns u
+told_both : (ms ms2 ns : List Mark) (t t2 u : List ℕ) → IsPart ms t → ms2 ≡ ms ++ ns → t2 ≡ t ++ u
+    → pieces_at ms2 t2 ≡ pieces_at ms t ++ pieces_at ns u
 told_both ms ms2 ns t t2 u s m e = cc (pieces_append ms ns t u s.whole)
 
 -- the pieces of a tick and of an event have text

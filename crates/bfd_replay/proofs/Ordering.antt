@@ -1,17 +1,24 @@
 -- Results, one more of which has parts; and parts in order.
-use Rattle.bfd_replay.proofs.WorkerCommon.{◌≡◌, ◌≢◌, ◌<◌, ◌≤◌, ◌+◌, ◌%◌, ◌++◌, ◌∙◌, ◌∷◌, ℕ, [], List, length, map, get_or, set, get_or-set_same, get_or-set_other, refl, sym, ap, arith, length-append, Some, Result, Ok, slice_get, slice_index_or, get_or-map, map-append, map-set, length-map, length-set, get_or_append_left, get_or-append_seam, dite, ℕ_discrete, put_other}
+use Rattle.bfd_replay.proofs.WorkerCommon.{◌≡◌, ◌≢◌, ◌<◌, ◌≤◌, ◌+◌, ◌%◌, ◌++◌, ◌∙◌, ◌∷◌, ℕ, [], List, length, map, get_or, set}
+use Rattle.bfd_replay.proofs.WorkerCommon.{get_or-set_same, get_or-set_other, refl, sym, ap, arith, length-append, Some, Result, Ok}
+use Rattle.bfd_replay.proofs.WorkerCommon.{slice_get, slice_index_or, get_or-map, map-append, map-set, length-map, length-set}
+use Rattle.bfd_replay.proofs.WorkerCommon.{get_or_append_left, get_or-append_seam, dite, ℕ_discrete, put_other}
 
 -- the next of the results that are left
 pub mapped_here : {A B : Type 0} (f : A → B) (xs ys zs : List A) (x : A) → xs ++ x ∷ ys ≡ zs → slice_get (map f zs) (length xs) ≡ Some (f x)
 mapped_here f [] ys zs x e = cc
 mapped_here f (w ∷ xs) ys zs x e = cc (mapped_here f xs ys (xs ++ x ∷ ys) x refl)
 
-pub ok_more : {A B V E : Type 0} (f : A → Result B E) (g : V → B) (xs : List A) {x : A} (vs : List V) {vs2 : List V} {v : V} → map f xs ≡ map Ok (map g vs) → f x ≡ Ok (g v) → vs2 ≡ vs ++ v ∷ []
+pub ok_more : {A B V E : Type 0} (f : A → Result B E) (g : V → B) (xs : List A) {x : A} (vs : List V) {vs2 : List V} {v : V}
+    → map f xs ≡ map Ok (map g vs) → f x ≡ Ok (g v) → vs2 ≡ vs ++ v ∷ []
     → map f (xs ++ x ∷ []) ≡ map Ok (map g vs2)
-ok_more f g xs {x} vs {v} so_far one pushed = map-append f xs (x ∷ []) ∙ (ap (λ l. l ++ f x ∷ []) so_far ∙ (ap (λ r. map Ok (map g vs) ++ r ∷ []) one
-    ∙ (sym (map-append Ok (map g vs) (g v ∷ [])) ∙ (ap (map Ok) (sym (map-append g vs (v ∷ []))) ∙ ap (λ l. map Ok (map g l)) (sym pushed)))))
+ok_more f g xs {x} vs {v} so_far one pushed = map-append f xs (x ∷ [])
+    ∙ (ap (λ l. l ++ f x ∷ []) so_far ∙ (ap (λ r. map Ok (map g vs) ++ r ∷ []) one
+    ∙ (sym (map-append Ok (map g vs) (g v ∷ [])) ∙ (ap (map Ok) (sym (map-append g vs (v ∷ [])))
+    ∙ ap (λ l. map Ok (map g l)) (sym pushed)))))
 
-pub told_more : {A B V : Type 0} (f : A → V) (g : B → V) (ts : List A) {ts2 : List A} {t : A} (ws : List B) {w : B} → map f ts ≡ map g ws → f t ≡ g w → ts2 ≡ ts ++ t ∷ [] → map f ts2 ≡ map g (ws ++ w ∷ [])
+pub told_more : {A B V : Type 0} (f : A → V) (g : B → V) (ts : List A) {ts2 : List A} {t : A} (ws : List B) {w : B} → map f ts ≡ map g ws
+    → f t ≡ g w → ts2 ≡ ts ++ t ∷ [] → map f ts2 ≡ map g (ws ++ w ∷ [])
 told_more f g ts {t} ws {w} so_far one pushed = cc (map-append f ts (t ∷ []), map-append g ws (w ∷ []))
 
 -- the parts so far, with one more
@@ -22,25 +29,38 @@ pub record InOrder (shards workers shard : ℕ) {P : Type 0} (all left : List (L
   pub each : (s : ℕ) → s < shard → slice_index_or parts s [] ≡ slice_index_or (slice_index_or all (s % workers) []) s []
   pub later : (i r : ℕ) → shard ≤ r → slice_index_or (slice_index_or left i []) r [] ≡ slice_index_or (slice_index_or all i []) r []
 
-pub order_none : {P : Type 0} (shards workers : ℕ) (all : List (List (List P))) {parts : List (List P)} → parts ≡ [] → InOrder shards workers 0 all all parts
-order_none shards workers all none = record { long = cc; many = refl; wide = λ i. refl; each = λ s h. absurd (omega (arith, h)); later = λ i r h. refl }
+pub order_none : {P : Type 0} (shards workers : ℕ) (all : List (List (List P))) {parts : List (List P)} → parts ≡ []
+    → InOrder shards workers 0 all all parts
+order_none shards workers all none = record {
+  long = cc;
+  many = refl;
+  wide = λ i. refl;
+  each = λ s h. absurd (omega (arith, h));
+  later = λ i r h. refl;
+}
 
-pub order_more : {P : Type 0} {shards workers shard : ℕ} {all left : List (List (List P))} (after : List (List (List P))) {parts parts2 : List (List P)} {part : List P} → InOrder shards workers shard all left parts
-    → part ≡ slice_index_or (slice_index_or left (shard % workers) []) shard [] → length after ≡ length left → ((i : ℕ) → length (slice_index_or after i []) ≡ length (slice_index_or left i []))
-    → ((i r : ℕ) → r ≢ shard → slice_index_or (slice_index_or after i []) r [] ≡ slice_index_or (slice_index_or left i []) r []) → parts2 ≡ parts ++ part ∷ [] → InOrder shards workers (shard + 1) all after parts2
+pub order_more : {P : Type 0} {shards workers shard : ℕ} {all left : List (List (List P))}
+    (after : List (List (List P))) {parts parts2 : List (List P)} {part : List P} → InOrder shards workers shard all left parts
+    → part ≡ slice_index_or (slice_index_or left (shard % workers) []) shard [] → length after ≡ length left
+    → ((i : ℕ) → length (slice_index_or after i []) ≡ length (slice_index_or left i []))
+    → ((i r : ℕ) → r ≢ shard → slice_index_or (slice_index_or after i []) r [] ≡ slice_index_or (slice_index_or left i []) r [])
+    → parts2 ≡ parts ++ part ∷ [] → InOrder shards workers (shard + 1) all after parts2
 order_more {workers} {shard} after {parts} {part} o is many wide others pushed = record {
   long = omega (arith, ap length pushed, length-append parts (part ∷ []), o.long);
   many = cc;
   wide = λ i. wide i ∙ o.wide i;
-  each = λ s h. dite (ℕ_discrete s shard) (λ same. rw same (cc (get_or-append_seam parts part [] [], o.later (shard % workers) shard (omega arith)))) (λ other.
+  each = λ s h. dite (ℕ_discrete s shard) (λ same. rw same
+      (cc (get_or-append_seam parts part [] [], o.later (shard % workers) shard (omega arith)))) (λ other.
       cc (get_or_append_left parts (part ∷ []) [] s (omega (arith, o.long, h, other)), o.each s (omega (arith, h, other))));
   later = λ i r h. others i r (λ e. absurd (omega (arith, h, e))) ∙ o.later i r (omega (arith, h));
 }
 
-pub order_end : {P : Type 0} (parts : List (List P)) {parts2 : List (List P)} (part : List P) (s : ℕ) → parts2 ≡ parts ++ part ∷ [] → s < length parts → slice_index_or parts2 s [] ≡ slice_index_or parts s []
+pub order_end : {P : Type 0} (parts : List (List P)) {parts2 : List (List P)} (part : List P) (s : ℕ) → parts2 ≡ parts ++ part ∷ []
+    → s < length parts → slice_index_or parts2 s [] ≡ slice_index_or parts s []
 order_end parts part s pushed h = cc (get_or_append_left parts (part ∷ []) [] s h)
 
-pub order_last : {P : Type 0} (parts : List (List P)) {parts2 : List (List P)} (part : List P) {n : ℕ} → parts2 ≡ parts ++ part ∷ [] → length parts ≡ n → slice_index_or parts2 n [] ≡ part
+pub order_last : {P : Type 0} (parts : List (List P)) {parts2 : List (List P)} (part : List P) {n : ℕ} → parts2 ≡ parts ++ part ∷ []
+    → length parts ≡ n → slice_index_or parts2 n [] ≡ part
 order_last parts part pushed long = cc (get_or-append_seam parts part [] [])
 
 module _ {V A : Type 0} (f : V → List (List A)) where

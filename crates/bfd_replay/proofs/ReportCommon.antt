@@ -1,12 +1,17 @@
 -- Names that proofs of this crate cite, passed on from one place. Declares nothing.
-pub use Rattle.std.proofs.Common.{Bool, Err, List, None, Ok, OnErr, OnOk, Option, Result, Some, [], ap, append-nil, append_assoc, arith, drop, drop-cons, ext_get_or, false, get_or, get_or-set_other, get_or-set_same, inl, inr, length, length-append, length-drop, length-set, map, max, refl, set, subst, suc, sym, take, take-append-drop, true, zero, ℕ, ◌%◌, ◌&&◌, ◌*◌, ◌++◌, ◌+◌, ◌-◌, ◌/◌, ◌<◌, ◌==◌, ◌||◌, ◌∙◌, ◌∷◌, ◌≡◌, ◌≢◌, ◌≤◌, ◌⊎◌}
+pub use Rattle.std.proofs.Common.{Bool, Err, List, None, Ok, OnErr, OnOk, Option, Result, Some, [], ap, append-nil, append_assoc, arith}
+pub use Rattle.std.proofs.Common.{drop, drop-cons, ext_get_or, false, get_or, get_or-set_other, get_or-set_same, inl, inr, length}
+pub use Rattle.std.proofs.Common.{length-append, length-drop, length-set, map, max, refl, set, subst, suc, sym, take, take-append-drop}
+pub use Rattle.std.proofs.Common.{true, zero, ℕ, ◌%◌, ◌&&◌, ◌*◌, ◌++◌, ◌+◌, ◌-◌, ◌/◌, ◌<◌, ◌==◌, ◌||◌, ◌∙◌, ◌∷◌, ◌≡◌, ◌≢◌, ◌≤◌, ◌⊎◌}
 pub use Rattle.std.proofs.lemmas.Bool.{cases_eq, eq-eqb, ne_eqb}
 pub use Rattle.std.proofs.lemmas.List.{drop-append-le, get_or-map, get_or_default, length-map, map-append, map-set, take-append-le}
 pub use Rattle.std.proofs.lemmas.List.Sums.{sum_by-append, sum_by-cons}
 pub use Rattle.std.specs.List.{AllByRecursion, cons_option, filter, filter_map, flat_map, sum_by}
 pub use Rattle.std.specs.Prelude.{IfOk, IfSome, nat_lt, slice_get, ◌^◌}
-pub use Rattle.bfd_replay.specs.Happenings.{Among, Apart, AreParts, Happening, happening_outcomes, in_shard, numbered, queue, session_event, shard_tells, told_apart, told_whole}
-pub use Rattle.bfd_replay.specs.Inside.{HasAll, IsLeast, IsPart, first_drops, first_key, first_text, first_txs, head_key, keys, mark_key, mark_of, pieces_at, rank_key}
+pub use Rattle.bfd_replay.specs.Happenings.{Among, Apart, AreParts, Happening, happening_outcomes, in_shard, numbered, queue, session_event}
+pub use Rattle.bfd_replay.specs.Happenings.{shard_tells, told_apart, told_whole}
+pub use Rattle.bfd_replay.specs.Inside.{HasAll, IsLeast, IsPart, first_drops, first_key, first_text, first_txs, head_key, keys, mark_key}
+pub use Rattle.bfd_replay.specs.Inside.{mark_of, pieces_at, rank_key}
 pub use Rattle.bfd_replay.specs.Pieces.{Piece, event_pieces, item_piece, key, precedes, texts, whole_piece}
 pub use Rattle.std.specs.Io.KnownBytes.{Appends}
 pub use Rattle.bfd_replay.specs.Written.{TookFront, TookUpTo}
@@ -14,7 +19,8 @@ pub use Rattle.bfd_replay.specs.Spread.{AreGathered, Dealt, IsBefore, IsSpread, 
 pub use Rattle.bfd_replay.specs.declared.report.key.Key.{Key}
 pub use Rattle.bfd_replay.specs.declared.report.key.Mark.{Mark}
 pub use Rattle.bfd_rules.specs.declared.outputs.Out.{Out}
-pub use Rattle.bfd_script.specs.Report.{answer_line, done_line, dropped, dropped_by, event_lines, item_line, lines_from, packets_sent, packets_sent_by, report}
+pub use Rattle.bfd_script.specs.Report.{answer_line, done_line, dropped, dropped_by, event_lines, item_line, lines_from, packets_sent}
+pub use Rattle.bfd_script.specs.Report.{packets_sent_by, report}
 pub use Rattle.bfd_session.specs.Alone.{Outcome, stepped, tick_items, ticked}
 pub use Rattle.bfd_session.specs.Kinds.{Running, configs_of, discr_of}
 pub use Rattle.bfd_session.specs.declared.event.Event.{Event}

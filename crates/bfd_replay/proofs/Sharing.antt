@@ -1,5 +1,7 @@
 -- A shard's sessions after an event of the whole table.
-use Rattle.bfd_replay.proofs.ReportCommon.{◌≡◌, ◌≢◌, ◌<◌, ◌/◌, ◌%◌, max, ℕ, List, refl, Option, None, Some, slice_get, Event, stepped, ticked, Running, Own, Tick, share, moved, own_moved, outcome_of, not_there, share_map, share_other, share_set, there, div-add-mod'}
+use Rattle.bfd_replay.proofs.ReportCommon.{◌≡◌, ◌≢◌, ◌<◌, ◌/◌, ◌%◌, max, ℕ, List, refl, Option, None, Some, slice_get, Event, stepped}
+use Rattle.bfd_replay.proofs.ReportCommon.{ticked, Running, Own, Tick, share, moved, own_moved, outcome_of, not_there, share_map}
+use Rattle.bfd_replay.proofs.ReportCommon.{share_other, share_set, there, div-add-mod'}
 
 -- an own event of the table is the same event of its shard
 
@@ -23,9 +25,11 @@ own_gives n k m last event ss some = cc (there n k ss some)
 own_away_by : {n r : ℕ} (k m last : ℕ) (event : Event) (ss : List Running) (o : Option Running) → 0 < n → r < n → k % n ≢ r
     → share n r (own_moved o k m last event ss) ≡ share n r ss
 own_away_by k m last event ss None some h other = refl
-own_away_by {n} {r} k m last event ss (Some x) some h other = share_other n r k ss (stepped m last event x) some (λ p. not_there k n r p some h other)
+own_away_by {n} {r} k m last event ss (Some x) some h other =
+    share_other n r k ss (stepped m last event x) some (λ p. not_there k n r p some h other)
 
-pub own_away : (n r k m last : ℕ) (event : Event) (ss : List Running) → 0 < n → r < n → k % n ≢ r → share n r (moved last (Own k m event) ss) ≡ share n r ss
+pub own_away : (n r k m last : ℕ) (event : Event) (ss : List Running) → 0 < n → r < n → k % n ≢ r
+    → share n r (moved last (Own k m event) ss) ≡ share n r ss
 unfolding moved
 own_away n r k m last event ss some h other = own_away_by k m last event ss (slice_get ss k) some h other
 

@@ -1,5 +1,7 @@
 -- Sessions that are Up, counted by shards.
-use Rattle.bfd_replay.proofs.WorkerCommon.{◌≡◌, ◌<◌, ◌+◌, ◌-◌, ◌∙◌, Bool, true, false, ℕ, zero, suc, List, [], ◌∷◌, length, get_or, refl, ap, subst, arith, sum_by, if◌then◌else◌, dite, ℕ_discrete, Shard, IsShard, one_up, sum_to, ups, Running}
+use Rattle.bfd_replay.proofs.WorkerCommon.{◌≡◌, ◌<◌, ◌+◌, ◌-◌, ◌∙◌, Bool, true, false, ℕ, zero, suc, List, [], ◌∷◌, length, get_or, refl}
+use Rattle.bfd_replay.proofs.WorkerCommon.{ap, subst, arith, sum_by, if◌then◌else◌, dite, ℕ_discrete, Shard, IsShard, one_up, sum_to, ups}
+use Rattle.bfd_replay.proofs.WorkerCommon.{Running}
 use Rattle.std.proofs.lemmas.List.Sums.{sum_by-cons}
 use Rattle.bfd_rules.specs.Quantities.{is_up}
 use Rattle.bfd_shard.specs.Dealing.{share}
@@ -61,6 +63,7 @@ any (x ∷ xs) zero d e h = refl
 any (x ∷ xs) (suc k) d e h = any xs k d e (omega (arith, h))
 
 -- one shard more is what its journal makes of it
-pub kept_more : (xs : List Shard) (at : ℕ) (x : Shard) → at < length xs → x ≡ get_or xs at x → IsShard x → ((k : ℕ) (d : Shard) → k < at → IsShard (get_or xs k d)) → (k : ℕ) (d : Shard) → k < at + 1 → IsShard (get_or xs k d)
+pub kept_more : (xs : List Shard) (at : ℕ) (x : Shard) → at < length xs → x ≡ get_or xs at x → IsShard x
+    → ((k : ℕ) (d : Shard) → k < at → IsShard (get_or xs k d)) → (k : ℕ) (d : Shard) → k < at + 1 → IsShard (get_or xs k d)
 kept_more xs at x inside is one kept k d h = dite (ℕ_discrete k at) (λ same. rw same (subst IsShard (is ∙ any xs at x d inside) one))
     (λ other. kept k d (omega (arith, h, other)))

@@ -1,6 +1,10 @@
 -- The least first piece of the parts is the first of what is left.
 use Rattle.std.proofs.Math.ListN.{get_or-map}
-use Rattle.bfd_replay.proofs.ReportCommon.{◌≡◌, ◌≢◌, ◌⊎◌, inl, inr, ◌<◌, ◌+◌, ◌==◌, ◌++◌, ℕ, Bool, true, false, List, [], ◌∷◌, length, drop, map, get_or, set, get_or-set_same, get_or-set_other, get_or_default, length-map, length-set, refl, ap, ◌∙◌, append_assoc, append-nil, arith, Option, None, Some, AllByRecursion, eq-eqb, sum_by-cons, Key, Piece, Dealt, pieces_in, IsSpread, dealt_text, IsLeast, first_key, head_key, keys, sym, first_text, first_txs, first_drops, sum_by, nat_tests}
+use Rattle.bfd_replay.proofs.ReportCommon.{◌≡◌, ◌≢◌, ◌⊎◌, inl, inr, ◌<◌, ◌+◌, ◌==◌, ◌++◌, ℕ, Bool, true, false, List, [], ◌∷◌, length, drop}
+use Rattle.bfd_replay.proofs.ReportCommon.{map, get_or, set, get_or-set_same, get_or-set_other, get_or_default, length-map, length-set}
+use Rattle.bfd_replay.proofs.ReportCommon.{refl, ap, ◌∙◌, append_assoc, append-nil, arith, Option, None, Some, AllByRecursion, eq-eqb}
+use Rattle.bfd_replay.proofs.ReportCommon.{sum_by-cons, Key, Piece, Dealt, pieces_in, IsSpread, dealt_text, IsLeast, first_key, head_key}
+use Rattle.bfd_replay.proofs.ReportCommon.{keys, sym, first_text, first_txs, first_drops, sum_by, nat_tests}
 
 -- how many packets dealt pieces tell were sent and were dropped
 abbrev pub txs_of : List Dealt → ℕ
@@ -45,7 +49,8 @@ found_by {s} P {d} ds {key} (inl e) rest f h =
     record { dealt = d; is = cc; its = e; holds = h.0 }
 found_by {s} P {d} ds (inr e) rest f h = rest (cc (away d ds s e)) h.1
 
-pub found : (s : ℕ) (P : Dealt → Type 0) (ds : List Dealt) (key : Key) → first_key (pieces_in s ds) ≡ Some key → AllByRecursion P ds → Found s P key
+pub found : (s : ℕ) (P : Dealt → Type 0) (ds : List Dealt) (key : Key) → first_key (pieces_in s ds) ≡ Some key → AllByRecursion P ds
+    → Found s P key
 found s P [] key f h = absurd (cc)
 found s P (d ∷ ds) key f h = found_by P ds (same_or_not d.part s) (found s P ds key) f h
 
@@ -63,7 +68,8 @@ within_heads parts h = omega (arith, h, length-map parts first_key)
 pub not_both : {b : Bool} → b ≡ true → b ≡ false → ⊥
 not_both h k = cc
 
-other_part : {d : Dealt} {ds : List Dealt} {parts : List (List Piece)} {s : ℕ} → IsSpread (d ∷ ds) parts → (l : IsLeast (map first_key parts) s) → d.part ≢ s → ⊥
+other_part : {d : Dealt} {ds : List Dealt} {parts : List (List Piece)} {s : ℕ} → IsSpread (d ∷ ds) parts
+    → (l : IsLeast (map first_key parts) s) → d.part ≢ s → ⊥
 other_part {d} {ds} {parts} {s} h l apart =
     let there = found s _ ds l.key (cc (l.there, head_of parts s, h.each s (inside_of _ l.inside), away d ds s apart)) h.ordered.0 in
     elim there.holds [
@@ -72,7 +78,8 @@ other_part {d} {ds} {parts} {s} h l apart =
           (cc (head_of parts d.part, h.each d.part h.within.0, here d ds d.part refl)))
     ]
 
-its : (d : Dealt) (ds : List Dealt) (parts : List (List Piece)) (s : ℕ) → IsSpread (d ∷ ds) parts → IsLeast (map first_key parts) s → d.part ≡ s
+its : (d : Dealt) (ds : List Dealt) (parts : List (List Piece)) (s : ℕ) → IsSpread (d ∷ ds) parts → IsLeast (map first_key parts) s
+    → d.part ≡ s
 its d ds parts s h l = elim (same_or_not d.part s) [ inl same ↦ same | inr apart ↦ absurd (other_part h l apart) ]
 
 -- one piece is taken off its part
@@ -87,15 +94,18 @@ takes d ds parts s h e inside = record {
         | inl same ↦
             cc (get_or-set_same parts s (drop 1 (get_or parts s [])) [] inside, h.each s inside, here d ds s e)
         | inr other ↦
-            get_or-set_other parts s r (drop 1 (get_or parts s [])) [] other ∙ (h.each r (omega (arith, k, length-set parts s (drop 1 (get_or parts s [])))) ∙ away d ds r (λ z. other (cc)))
+            get_or-set_other parts s r (drop 1 (get_or parts s [])) [] other
+            ∙ (h.each r (omega (arith, k, length-set parts s (drop 1 (get_or parts s [])))) ∙ away d ds r (λ z. other (cc)))
       ];
   within = within_set ds (length-set parts s (drop 1 (get_or parts s []))) h.within.1;
   ordered = h.ordered.1;
 }
 
 go_by : {all : List Dealt} {parts : List (List Piece)} {before : List ℕ} (text : List ℕ) (txs drops : ℕ) {s : ℕ} (left : List Dealt)
-    → IsLeast (map first_key parts) s → IsSpread left parts → text ++ dealt_text left ≡ before ++ dealt_text all → txs + txs_of left ≡ txs_of all → drops + drops_of left ≡ drops_of all
-    → Going all (set parts s (drop 1 (get_or parts s []))) before (text ++ first_text (get_or parts s [])) (txs + first_txs (get_or parts s [])) (drops + first_drops (get_or parts s []))
+    → IsLeast (map first_key parts) s → IsSpread left parts → text ++ dealt_text left ≡ before ++ dealt_text all
+    → txs + txs_of left ≡ txs_of all → drops + drops_of left ≡ drops_of all
+    → Going all (set parts s (drop 1 (get_or parts s []))) before (text ++ first_text (get_or parts s []))
+    (txs + first_txs (get_or parts s [])) (drops + first_drops (get_or parts s []))
 go_by {parts} text txs drops {s} [] l h told sent dropped =
     absurd (let none = ap first_key (h.each s (inside_of _ l.inside)) in cc (l.there, head_of parts s))
 go_by {parts} text txs drops {s} (d ∷ ds) l h told sent dropped =
@@ -110,8 +120,10 @@ go_by {parts} text txs drops {s} (d ∷ ds) l h told sent dropped =
     }
 
 -- one more piece is taken
-pub go : {all : List Dealt} {parts parts2 : List (List Piece)} {heads : List (Option Key)} {part : List Piece} {before text text2 : List ℕ} {txs drops : ℕ} (count fell : ℕ) {s : ℕ}
-    → heads ≡ map first_key parts → IsLeast heads s → part ≡ get_or parts s part → parts2 ≡ set parts s (drop 1 part) → text2 ≡ text ++ first_text part
+pub go : {all : List Dealt} {parts parts2 : List (List Piece)} {heads : List (Option Key)} {part : List Piece} {before text text2 : List
+    ℕ} {txs drops : ℕ} (count fell : ℕ) {s : ℕ}
+    → heads ≡ map first_key parts → IsLeast heads s → part ≡ get_or parts s part → parts2 ≡ set parts s (drop 1 part)
+    → text2 ≡ text ++ first_text part
     → count ≡ first_txs part → fell ≡ first_drops part
     → Going all parts before text txs drops → Going all parts2 before text2 (txs + count) (drops + fell)
 go {parts} {part} {text} count fell {s} firsts least is e f n m g =
@@ -119,16 +131,24 @@ go {parts} {part} {text} count fell {s} firsts least is e f n m g =
     rw (e, f, n, m, is ∙ get_or_default parts s part [] (inside_of _ l.inside)) (go_by text _ _ _ l g.spread g.told g.sent g.dropped)
 
 -- where no part has a piece, none is left
-nothing : (left : List Dealt) {parts : List (List Piece)} → IsSpread left parts → ((s : ℕ) → s < length parts → first_key (get_or parts s []) ≡ None) → left ≡ []
+nothing : (left : List Dealt) {parts : List (List Piece)} → IsSpread left parts
+    → ((s : ℕ) → s < length parts → first_key (get_or parts s []) ≡ None) → left ≡ []
 nothing [] h none = refl
 nothing (d ∷ ds) {parts} h none =
-    absurd (let some : first_key (get_or parts d.part []) ≡ Some d.piece.key = cc (h.each d.part h.within.0, here d ds d.part refl) in cc (none d.part h.within.0))
+    absurd (let some : first_key (get_or parts d.part []) ≡ Some d.piece.key = cc (h.each d.part h.within.0, here d ds d.part refl) in
+    cc (none d.part h.within.0))
 
-pub gone : {all : List Dealt} {parts : List (List Piece)} (heads : List (Option ℕ)) {before text : List ℕ} {txs drops : ℕ} → keys heads ≡ map first_key parts
+pub gone : {all : List Dealt} {parts : List (List Piece)} (heads : List (Option ℕ)) {before text : List ℕ} {txs drops : ℕ}
+    → keys heads ≡ map first_key parts
     → ((s : ℕ) → s < length heads → get_or heads s None ≡ None)
     → Going all parts before text txs drops → (text ≡ before ++ dealt_text all) × (txs ≡ txs_of all) × (drops ≡ drops_of all)
 gone {parts} heads {text} firsts none g =
-    let empty = nothing _ g.spread (λ s inside. cc (head_of parts s, firsts, get_or-map head_key heads s None, none s (rw (sym (length-map heads head_key)) (rw firsts (within_heads parts inside))))) in (
+    let empty = nothing _ g.spread (λ s inside. cc (
+      head_of parts s,
+      firsts,
+      get_or-map head_key heads s None,
+      none s (rw (sym (length-map heads head_key)) (rw firsts (within_heads parts inside))),
+    )) in (
       cc (append-nil text),
       omega (arith, g.sent, ap txs_of empty),
       omega (arith, g.dropped, ap drops_of empty),

@@ -1,5 +1,8 @@
 -- What the shards tell of a tick is what the whole table gives.
-use Rattle.bfd_replay.proofs.ReportCommon.{Option, TookFront, TookUpTo, lines_from, refl, ◌++◌, ◌≡◌, ◌<◌, ◌+◌, ◌∙◌, ℕ, List, [], ◌∷◌, length, ap, sym, subst, append-nil, arith, sum_by-cons, Among, AreParts, Piece, event_pieces, Dealt, IsSpread, dealt_text, dropped, event_lines, packets_sent, Outcome, Running, last_tick, outcome_of, runs, Tick, ShardEvent, sum_by}
+use Rattle.bfd_replay.proofs.ReportCommon.{Option, TookFront, TookUpTo, lines_from, ◌++◌, ◌≡◌, ◌<◌, ◌+◌, ◌∙◌, ℕ, List, [], ◌∷◌}
+use Rattle.bfd_replay.proofs.ReportCommon.{length, ap, sym, subst, append-nil, arith, sum_by-cons, Among, AreParts, Piece, event_pieces}
+use Rattle.bfd_replay.proofs.ReportCommon.{Dealt, IsSpread, dealt_text, dropped, event_lines, packets_sent, Outcome, Running, last_tick}
+use Rattle.bfd_replay.proofs.ReportCommon.{outcome_of, runs, Tick, ShardEvent, sum_by}
 use Rattle.std.specs.Prelude.{slice_index_or}
 use Rattle.bfd_session.specs.Rows.{Ascends}
 use Rattle.bfd_shard.proofs.Runs.{runs_configs}
@@ -11,8 +14,10 @@ use Rattle.bfd_replay.proofs.OneCaller.{given_stands}
 use Rattle.bfd_replay.proofs.Telling.{deal_all}
 use Rattle.bfd_replay.proofs.Whole.{all_drops, all_text, all_txs, parts_spread}
 
-module _ (engine : Shards) (number t : ℕ) (k l : Knows) (parts : List (List Piece)) (past : List ShardEvent) (some : 0 < length engine.locks) (ascends : Ascends engine.configs) (long : length parts ≡ length engine.locks + 1)
-    (told : HaveToldTick engine number t (length engine.locks) k l parts) (last : slice_index_or parts (length engine.locks) [] ≡ []) (sole : AllSole (length engine.locks) l) (stands : HasSeen engine past k) where
+module _ (engine : Shards) (number t : ℕ) (k l : Knows) (parts : List (List Piece)) (past : List ShardEvent)
+    (some : 0 < length engine.locks) (ascends : Ascends engine.configs) (long : length parts ≡ length engine.locks + 1)
+    (told : HaveToldTick engine number t (length engine.locks) k l parts) (last : slice_index_or parts (length engine.locks) [] ≡ [])
+    (sole : AllSole (length engine.locks) l) (stands : HasSeen engine past k) where
   abbrev sessions : List Running
   sessions = runs past engine.configs
 
@@ -26,7 +31,8 @@ module _ (engine : Shards) (number t : ℕ) (k l : Knows) (parts : List (List Pi
   are = record {
     some = some;
     long = long;
-    each = λ s inside. told s inside (sole s inside) ∙ (ap (event_pieces number (Tick t)) (given_stands engine k past (Tick t) inside stands) ∙ sym (append-nil _));
+    each = λ s inside. told s inside (sole s inside)
+        ∙ (ap (event_pieces number (Tick t)) (given_stands engine k past (Tick t) inside stands) ∙ sym (append-nil _));
     others = last;
     ascends = subst Ascends (sym (runs_configs 0 past engine.configs)) ascends;
   }
@@ -35,24 +41,34 @@ module _ (engine : Shards) (number t : ℕ) (k l : Knows) (parts : List (List Pi
   tick_spread = parts_spread are
 
   pub tick_text : dealt_text tick_dealt ≡ event_lines number tick_outcome
-  tick_text = all_text (length engine.locks) number (last_tick past) (Among (Tick t) ∷ []) sessions ∙ append-nil (event_lines number tick_outcome)
+  tick_text = all_text (length engine.locks) number (last_tick past) (Among (Tick t) ∷ []) sessions
+      ∙ append-nil (event_lines number tick_outcome)
 
   pub tick_txs : sum_by (λ d. d.piece.txs) tick_dealt ≡ packets_sent tick_outcome
-  tick_txs = omega (arith, all_txs (length engine.locks) number (last_tick past) (Among (Tick t) ∷ []) sessions, sum_by-cons packets_sent tick_outcome [])
+  tick_txs = omega (
+    arith,
+    all_txs (length engine.locks) number (last_tick past) (Among (Tick t) ∷ []) sessions,
+    sum_by-cons packets_sent tick_outcome [],
+  )
 
   pub tick_drops : sum_by (λ d. d.piece.drops) tick_dealt ≡ dropped tick_outcome
-  tick_drops = omega (arith, all_drops (length engine.locks) number (last_tick past) (Among (Tick t) ∷ []) sessions, sum_by-cons dropped tick_outcome [])
+  tick_drops = omega (
+    arith,
+    all_drops (length engine.locks) number (last_tick past) (Among (Tick t) ∷ []) sessions,
+    sum_by-cons dropped tick_outcome [],
+  )
 
-  pub tick_was_told : {old new : Option (List ℕ)} (before after : Telling) → number ≡ before.events + 1 → TookUpTo old new (before.text ++ dealt_text tick_dealt) after.text
-      → after.events ≡ before.events + 1 → after.txs ≡ before.txs + sum_by (λ d. d.piece.txs) tick_dealt → after.drops ≡ before.drops + sum_by (λ d. d.piece.drops) tick_dealt
+  pub tick_was_told : {old new : Option (List ℕ)} (before after : Telling) → number ≡ before.events + 1
+      → TookUpTo old new (before.text ++ dealt_text tick_dealt) after.text
+      → after.events ≡ before.events + 1 → after.txs ≡ before.txs + sum_by (λ d. d.piece.txs) tick_dealt
+      → after.drops ≡ before.drops + sum_by (λ d. d.piece.drops) tick_dealt
       → (rest : List Outcome) → ToldUpTo old new before after (tick_outcome ∷ rest) rest
   tick_was_told {old} {new} before after first lines events txs drops rest =
-      let told : Telling = record { text = before.text ++ event_lines (before.events + 1) tick_outcome; events = before.events + 1; txs = before.txs + packets_sent tick_outcome; drops = before.drops + dropped tick_outcome } in
-      event_told old new before told after tick_outcome refl refl refl refl events (omega (arith, txs, tick_txs)) (omega (arith, drops, tick_drops))
+      event_told old new before after tick_outcome events (omega (arith, txs, tick_txs)) (omega (arith, drops, tick_drops))
       (subst (λ t. TookUpTo old new t after.text) (cc (tick_text, first)) lines) rest
 
-  pub tick_front : (old new : Option (List ℕ)) (before : Telling) → number ≡ before.events + 1 → TookFront old new (before.text ++ dealt_text tick_dealt)
+  pub tick_front : (old new : Option (List ℕ)) (before : Telling) → number ≡ before.events + 1
+      → TookFront old new (before.text ++ dealt_text tick_dealt)
       → (rest : List Outcome) → TookFront old new (before.text ++ lines_from (before.events + 1) (tick_outcome ∷ rest))
   tick_front old new before first took rest =
-      let told : Telling = record { text = before.text ++ event_lines (before.events + 1) tick_outcome; events = before.events; txs = before.txs; drops = before.drops } in
-      event_front old new before told {os = rest} refl refl (subst (TookFront old new) (cc (tick_text, first)) took)
+      event_front old new before tick_outcome rest (subst (TookFront old new) (cc (tick_text, first)) took)

@@ -1,5 +1,8 @@
 -- Names that proofs of this crate cite, passed on from one place. Declares nothing.
-pub use Rattle.std.proofs.Common.{Bool, Err, List, None, Ok, Option, Result, Some, [], add_comm, ap, append-nil, append_assoc, arith, false, get_or, get_or-set_other, get_or-set_same, inl, inr, length, length-append, map, refl, rules, set, subst, suc, sym, take, true, w64, zero, ℕ, ◌%◌, ◌*◌, ◌++◌, ◌+◌, ◌-◌, ◌/◌, ◌<◌, ◌==◌, ◌||◌, ◌∙◌, ◌∷◌, ◌≡◌, ◌≢◌, ◌≤◌}
+pub use Rattle.std.proofs.Common.{Bool, Err, List, None, Ok, Option, Result, Some, [], add_comm, ap, append-nil, append_assoc, arith, false}
+pub use Rattle.std.proofs.Common.{get_or, get_or-set_other, get_or-set_same, inl, inr, length, length-append, map, refl, rules, set, subst}
+pub use Rattle.std.proofs.Common.{suc, sym, take, true, w64, zero, ℕ, ◌%◌, ◌*◌, ◌++◌, ◌+◌, ◌-◌, ◌/◌, ◌<◌, ◌==◌, ◌||◌, ◌∙◌, ◌∷◌, ◌≡◌, ◌≢◌}
+pub use Rattle.std.proofs.Common.{◌≤◌}
 pub use Rattle.std.proofs.Math.Seq.{get_or-append_seam}
 pub use Rattle.std.proofs.lemmas.Bool.{cases_lt, eq-eqb, eqb-true, ne_eqb}
 pub use Rattle.std.proofs.lemmas.List.{get_or-map, get_or_append_left, length-map, length-set, map-append, map-set, nil_from_length}
@@ -19,8 +22,10 @@ pub use Rattle.bfd_session.specs.declared.event.SessionConfig.{SessionConfig}
 pub use Rattle.bfd_shard.specs.Shard.{CanHappen, IsShard, Shard}
 pub use Rattle.bfd_turn.specs.Lists.{calls, has, numbers_of}
 pub use Rattle.bfd_replay.specs.Counts.{one_up, sum_to, ups}
-pub use Rattle.bfd_replay.specs.Jobs.{AllJobsJoined, AreJobs, AreOwn, HasEnded, HasWorkedOn, IsFreshAt, IsJoining, IsNewJob, JobsAreJoined, Work, number_of, own_queue, seen_as}
-pub use Rattle.bfd_replay.specs.Working.{AreMet, HasDoneAt, HasDoneEvents, HasFinished, HasLeft, HasStopped, HasTold, HasUsedAt, IsElsewhere, IsIdle, IsSole, IsStopAt, IsTurnRefused, IsWorkerReady, entries_by, events_in}
+pub use Rattle.bfd_replay.specs.Jobs.{AllJobsJoined, AreJobs, AreOwn, HasEnded, HasWorkedOn, IsFreshAt, IsJoining, IsNewJob, JobsAreJoined}
+pub use Rattle.bfd_replay.specs.Jobs.{Work, number_of, own_queue, seen_as}
+pub use Rattle.bfd_replay.specs.Working.{AreMet, HasDoneAt, HasDoneEvents, HasFinished, HasLeft, HasStopped, HasTold, HasUsedAt}
+pub use Rattle.bfd_replay.specs.Working.{IsElsewhere, IsIdle, IsSole, IsStopAt, IsTurnRefused, IsWorkerReady, entries_by, events_in}
 pub use mathlib.Core.Logic.{dite}
 pub use native.Mathlib.Decide.{ℕ_discrete}
 pub use Rattle.bfd_script.specs.Report.{dropped, lines_from, packets_sent, report}

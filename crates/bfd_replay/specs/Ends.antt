@@ -18,7 +18,8 @@ pub record IsDoneJob (engine : Shards) (queues : List (List Numbered)) (workers 
   pub of : IsOf engine w.pass.1
   pub there : AllThere w.pass.1
   pub number : w.pass.0 ≡ at + 1
-  pub used : (shard : ℕ) → shard < length engine.locks → HasUsedAt w.pass shard (own_queue workers at shard (slice_index_or queues shard []))
+  pub used : (shard : ℕ) → shard < length engine.locks
+      → HasUsedAt w.pass shard (own_queue workers at shard (slice_index_or queues shard []))
   pub mine : List (List Numbered)
   pub own : AreOwn workers at queues mine
   pub ended : HasEnded engine mine w.pass w.told
@@ -33,7 +34,8 @@ IsFine (Err (Spent at word)) = ⊥
 -- what the worker at this place of so many told of each shard that it takes, if it ended with parts: what its queue's events give
 abbrev pub HasToldShards : Shards → List (List Numbered) → ℕ → ℕ → Result (List (List Piece)) EngineFault → Type 0
 HasToldShards engine queues workers at (Err fault) = Unit {0}
-HasToldShards engine queues workers at (Ok parts) = (length parts ≡ length engine.locks) × ((shard : ℕ) → shard < length engine.locks → shard % workers ≡ at
+HasToldShards engine queues workers at (Ok parts) = (length parts ≡ length engine.locks)
+    × ((shard : ℕ) → shard < length engine.locks → shard % workers ≡ at
     → slice_index_or parts shard [] ≡ shard_tells 0 (slice_index_or queues shard []) (map started (configs_at engine shard)))
 
 -- the workers' parts: shard by shard what its queue's events give, told by its worker
@@ -41,7 +43,8 @@ pub record AreTold (engine : Shards) (queues : List (List Numbered)) (workers : 
   pub long : length all ≡ workers
   pub wide : (at : ℕ) → at < workers → length (slice_index_or all at []) ≡ length engine.locks
   pub each : (shard : ℕ) → shard < length engine.locks
-      → slice_index_or (slice_index_or all (shard % workers) []) shard [] ≡ shard_tells 0 (slice_index_or queues shard []) (map started (configs_at engine shard))
+      → slice_index_or (slice_index_or all (shard % workers) []) shard []
+      ≡ shard_tells 0 (slice_index_or queues shard []) (map started (configs_at engine shard))
 
 -- a closed shard: made of its configurations, and its journal has the queue's events alone, all brought by its worker
 pub record IsState (engine : Shards) (queues : List (List Numbered)) (workers number : ℕ) (shard : Shard) : Type 0 where

@@ -20,7 +20,8 @@ pub data Happening : Type 0 where
 abbrev pub happening_outcomes : ℕ → List Happening → List Running → List Outcome
 happening_outcomes last [] sessions = []
 happening_outcomes last (Apart outcome ∷ rest) sessions = outcome ∷ happening_outcomes last rest sessions
-happening_outcomes last (Among event ∷ rest) sessions = outcome_of last event sessions ∷ happening_outcomes (later last event) rest (moved last event sessions)
+happening_outcomes last (Among event ∷ rest) sessions =
+    outcome_of last event sessions ∷ happening_outcomes (later last event) rest (moved last event sessions)
 
 -- an event of the sessions, if it is one
 abbrev pub session_event : Happening → Option ShardEvent
@@ -45,7 +46,8 @@ queue shards shard number (h ∷ rest) = cons_option (numbered number (in_shard 
 -- the queues of so many shards, where one event more was dealt out to them
 abbrev pub AreQueued : ℕ → ShardEvent → List (List Numbered) → List (List Numbered) → Type 0
 AreQueued number event before after = (shard : ℕ) → shard < length before
-    → slice_index_or after shard [] ≡ slice_index_or before shard [] ++ cons_option (numbered number (event_in (length before) shard event)) []
+    → slice_index_or after shard [] ≡ slice_index_or before shard []
+    ++ cons_option (numbered number (event_in (length before) shard event)) []
 
 -- what a shard tells of its events, from these sessions of its own and this last tick on
 abbrev pub shard_tells : ℕ → List Numbered → List Running → List Piece
@@ -58,7 +60,8 @@ abbrev pub told_whole : ℕ → ℕ → List Happening → List Running → List
 told_whole number last [] sessions = []
 told_whole number last (Apart outcome ∷ rest) sessions = whole_piece number outcome ∷ told_whole (number + 1) last rest sessions
 told_whole number last (Among event ∷ rest) sessions =
-    event_pieces number event (outcome_of last event sessions) ++ told_whole (number + 1) (later last event) rest (moved last event sessions)
+    event_pieces number event (outcome_of last event sessions)
+    ++ told_whole (number + 1) (later last event) rest (moved last event sessions)
 
 -- what is told of the events of no session, where the first of these has this number
 abbrev pub told_apart : ℕ → List Happening → List Piece

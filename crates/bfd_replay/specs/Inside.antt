@@ -1,5 +1,6 @@
 -- What a part keeps, and how the parts' first pieces are looked at.
-use Rattle.std.specs.Prelude.{ℕ, ◌≡◌, ◌≢◌, ◌≤◌, ◌<◌, ◌+◌, ◌/◌, ◌%◌, ◌^◌, false, List, [], ◌∷◌, length, take, drop, map, slice_index_or, sum_by, Option, None, Some}
+use Rattle.std.specs.Prelude.{ℕ, ◌≡◌, ◌≢◌, ◌≤◌, ◌<◌, ◌+◌, ◌/◌, ◌%◌, ◌^◌, false, List, [], ◌∷◌, length, take, drop, map, slice_index_or}
+use Rattle.std.specs.Prelude.{sum_by, Option, None, Some}
 use Rattle.std.specs.List.{AllByRecursion}
 use Rattle.bfd_replay.specs.declared.report.key.Key.{Key}
 use Rattle.bfd_replay.specs.declared.report.key.Mark.{Mark}

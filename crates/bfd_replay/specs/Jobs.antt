@@ -1,5 +1,6 @@
 -- Workers' jobs.
-use Rattle.std.specs.Prelude.{ℕ, ◌≡◌, ◌≢◌, ◌<◌, ◌≤◌, ◌==◌, ◌%◌, ◌+◌, ◌*◌, ◌++◌, List, [], length, map, if◌then◌else◌, slice_get, slice_index_or, Some, Result, Ok, Err}
+use Rattle.std.specs.Prelude.{ℕ, ◌≡◌, ◌≢◌, ◌<◌, ◌≤◌, ◌==◌, ◌%◌, ◌+◌, ◌*◌, ◌++◌, List, [], length, map, if◌then◌else◌, slice_get}
+use Rattle.std.specs.Prelude.{slice_index_or, Some, Result, Ok, Err}
 use Rattle.bfd_turn.specs.Lists.{Begins}
 use Rattle.bfd_engine.specs.declared.fault.EngineFault.{EngineFault}
 use Rattle.bfd_engine.specs.Engines.{Shards, Knows, IsOf, AllThere}

@@ -1,5 +1,6 @@
 -- What each line of a script is, where its sessions are dealt out to shards.
-use Rattle.std.specs.Prelude.{ℕ, ◌≡◌, ◌<◌, ◌≤◌, ◌+◌, ◌++◌, List, [], ◌∷◌, length, map, reverse, slice_get, slice_index_or, Option, None, Some, Result, Ok, Err}
+use Rattle.std.specs.Prelude.{ℕ, ◌≡◌, ◌<◌, ◌≤◌, ◌+◌, ◌++◌, List, [], ◌∷◌, length, map, reverse, slice_get, slice_index_or, Option, None}
+use Rattle.std.specs.Prelude.{Some, Result, Ok, Err}
 use Rattle.std.specs.Global.{Vec}
 use Rattle.std.specs.List.{All, AllByRecursion, cons_option, filter_map, flat_map}
 use Rattle.bfd_packet.specs.declared.arrival.Datagram.{Datagram}
@@ -75,7 +76,8 @@ pub record AreQueues (shards : ℕ) (events : List Happening) (queues : List (Li
 -- the event of this number was taken into the queues, and into what is told of the events of no session
 pub record IsPlanned (number : ℕ) (h : Happening) (before after : List (List Numbered)) (apart apart2 : List Piece) : Type 0 where
   pub queued : (shard : ℕ) → shard < length before
-      → slice_index_or after shard [] ≡ slice_index_or before shard [] ++ cons_option (numbered number (in_shard (length before) shard h)) []
+      → slice_index_or after shard [] ≡ slice_index_or before shard []
+      ++ cons_option (numbered number (in_shard (length before) shard h)) []
   pub told : apart2 ≡ apart ++ told_apart number (h ∷ [])
 
 -- runs of lines one after another, where the first line has this number
@@ -93,7 +95,8 @@ pub record AreRuns (lines : List Line) (runs : List Run) : Type 0 where
   pub within : All (λ (r : Run). r.first + length r.lines.items ≤ 1 + length lines) runs
 
 -- what was planned of lines of which the first has this number
-pub record IsRunPlanned (configs : List SessionConfig) (pool : List Reflector) (shards first : ℕ) (lines : List Line) (queues : List (List Numbered)) (apart : List Piece) : Type 0 where
+pub record IsRunPlanned (configs : List SessionConfig) (pool : List Reflector) (shards first : ℕ) (lines : List Line)
+    (queues : List (List Numbered)) (apart : List Piece) : Type 0 where
   pub long : length queues ≡ shards
   pub queued : (shard : ℕ) → shard < shards → slice_index_or queues shard [] ≡ queue shards shard first (happenings configs pool lines)
   pub told : apart ≡ told_apart first (happenings configs pool lines)

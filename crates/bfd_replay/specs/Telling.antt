@@ -53,12 +53,14 @@ IsStop engine l (Unwritten fault) = Unit {0}
 
 -- if caller 0 is the engine's only one, the event's lines were told
 abbrev pub HasToldEvent : Shards → Happening → Knows → Knows → Option (List ℕ) → Option (List ℕ) → Telling → Telling → Type 0
-HasToldEvent engine h k l old new before after = AllSole (length engine.locks) l → (past : List ShardEvent) → HasSeen engine past k → (rest : List Outcome)
+HasToldEvent engine h k l old new before after = AllSole (length engine.locks) l → (past : List ShardEvent) → HasSeen engine past k
+    → (rest : List Outcome)
     → ToldUpTo old new before after (outcome_in (last_tick past) h (runs past engine.configs) ∷ rest) rest
 
 -- .. or a prefix of what was told with them
 abbrev pub HasToldFront : Shards → Happening → Knows → Knows → Option (List ℕ) → Option (List ℕ) → Telling → Type 0
-HasToldFront engine h k l old new before = AllSole (length engine.locks) l → (past : List ShardEvent) → HasSeen engine past k → (rest : List Outcome)
+HasToldFront engine h k l old new before = AllSole (length engine.locks) l → (past : List ShardEvent) → HasSeen engine past k
+    → (rest : List Outcome)
     → TookFront old new (before.text ++ lines_from (before.events + 1) (outcome_in (last_tick past) h (runs past engine.configs) ∷ rest))
 
 -- what events give on a new engine

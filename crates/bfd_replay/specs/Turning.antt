@@ -79,7 +79,8 @@ IsOfOne n (Among (Tick t)) = n ≡ 1
 
 -- such an event gave this, if caller 0 is the only one
 abbrev pub Gave : Shards → Knows → Knows → Happening → Outcome → Type 0
-Gave engine k l h outcome = IsOfOne (length engine.locks) h → AllSole (length engine.locks) l → (past : List ShardEvent) → HasSeen engine past k
+Gave engine k l h outcome = IsOfOne (length engine.locks) h → AllSole (length engine.locks) l → (past : List ShardEvent)
+    → HasSeen engine past k
     → outcome ≡ outcome_in (last_tick past) h (runs past engine.configs)
 
 -- what the shards before a place tell of a tick of this number, each if caller 0 is its only one

@@ -35,7 +35,8 @@ IsSole caller seen = AllByRecursion (λ entry. by entry ≡ caller) seen
 
 -- a caller did the first events of a shard's queue, which it didn't know before: if it is the shard's only caller, then what it
 -- has seen is their entries, and what it told is what they give
-pub record HasDoneEvents (engine : Shards) (shard caller : ℕ) (done : List Numbered) (seen : List Entry) (taken : ℕ) (part : List Piece) : Type 0 where
+pub record HasDoneEvents (engine : Shards) (shard caller : ℕ) (done : List Numbered) (seen : List Entry) (taken : ℕ)
+    (part : List Piece) : Type 0 where
   pub seen_is : IsSole caller seen → seen ≡ entries_by caller (events_in done)
   pub told_is : IsSole caller seen → part ≡ shard_tells 0 done (map started (configs_at engine shard))
   pub few : taken ≤ length done
@@ -62,7 +63,8 @@ pub record HasTold (engine : Shards) (shard : ℕ) (e : Numbered) (k l : Knows) 
 abbrev pub IsTurnRefused : EngineFault → Shards → ℕ → Knows → Knows → Type 0
 IsTurnRefused Memory engine shard k l = Unit {0}
 IsTurnRefused (Full at n) engine shard k l =
-    (length (seen_at l shard) ≡ engine.limit) × ((between : List Entry) × (calls by k.0 between ≡ []) × (seen_at l shard ≡ seen_at k shard ++ between))
+    (length (seen_at l shard) ≡ engine.limit) × ((between : List Entry) × (calls by k.0 between ≡ [])
+    × (seen_at l shard ≡ seen_at k shard ++ between))
 IsTurnRefused (Spent at word) engine shard k l = met_word l shard ≡ last_word
 
 -- what it knows of no other shard has changed
@@ -98,7 +100,8 @@ pub record IsWorkerReady (engine : Shards) (queues : List (List Numbered)) (k : 
 -- a part of each shard: all events of the worker's queues were done
 pub record HasFinished (engine : Shards) (queues : List (List Numbered)) (l : Knows) (parts : List (List Piece)) : Type 0 where
   pub long : length parts ≡ length engine.locks
-  pub done : (shard : ℕ) → shard < length engine.locks → HasDoneAt engine shard (slice_index_or queues shard []) l (slice_index_or parts shard [])
+  pub done : (shard : ℕ) → shard < length engine.locks
+      → HasDoneAt engine shard (slice_index_or queues shard []) l (slice_index_or parts shard [])
 
 -- the shard at which it stopped
 pub record HasStopped (engine : Shards) (queues : List (List Numbered)) (l : Knows) (fault : EngineFault) : Type 0 where

@@ -18,11 +18,11 @@ use std::sync::Wait;
 use std::thread::Threads;
 
 /// Replays the script on 1 to 64 shards of an engine, by 1 to 64 workers, and writes its report to the sink: by one worker as it comes, in
-/// the caller's thread, and by several once all is done. The report is the same, byte for byte. Each turn for event N stands between `gate.before(w, N)` and
-/// `gate.after(w, N)`, where w is the worker's number from 1, or 0 where there is one.
+/// the caller's thread, and by several once all is done. The report is the same, byte for byte. Each turn for event N stands between
+/// `gate.before(w, N)` and `gate.after(w, N)`, where w is the worker's number from 1, or 0 where there is one.
 ///
 /// It fails as Failed where the sink failed, and as Memory when out of memory, here or in the sink, or at 2^64 packets sent or dropped; the
-/// sink took a prefix of the report then. Its counts come back, and for clauses what the closed shards were. It may wait.
+/// sink accepted a prefix of the report then. Its counts come back, and for clauses what the closed shards were. It may wait.
 pub fn replay_to<W: Timers + Send + 'static, R: Threads + Wait + Sync, G: Gate + Sync, K: Sink>(
     rt: &R,
     alloc: Global,

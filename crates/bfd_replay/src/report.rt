@@ -1,15 +1,15 @@
-//! What the shards of a replay tell of their events, gathered into one report.
+//! What the shards of a replay report of their events, gathered into one report.
 //!
-//! A replay deals a table's sessions out to shards, and the events to the shards that have their sessions. Each shard tells what its events
-//! gave in a [`Part`], as text in pieces: all lines of an own event, or one line for each output of a tick, each piece with the number of
-//! its event and, of a tick, the discriminator that it names. [`report`] then takes the least piece of all parts, by event and then by
-//! discriminator, until none is left. A part more has what was told of events of no session. `give_all` gives the same to a sink as it is
-//! gathered, and [`write_all`] writes any text. [`report_at_once`] cuts the parts at places of the report, without a copy, and gathers what
-//! is between two places in a thread of its own, if one is available; [`write_each`] writes the texts that come of it.
+//! A replay deals a table's sessions out to shards, and the events to the shards that have their sessions. Each shard reports what its
+//! events gave in a [`Part`], as text in pieces: all lines of an own event, or one line for each output of a tick, each piece with the
+//! number of its event and, of a tick, the discriminator that it names. [`report`] then takes the least piece of all parts, by event and
+//! then by discriminator, until none is left. A part more has what was reported of events that match no session. `give_all` gives the same
+//! to a sink as it is gathered, and [`write_all`] writes any text. [`report_at_once`] cuts the parts at places of the report, without a
+//! copy, and gathers what is between two places in a thread of its own, if one is available; [`write_each`] writes the resulting texts.
 //!
 //! It knows no lock. It promises that of sessions that are dealt out each shard's are what the whole table's would be; that the report of
 //! the shards' parts is the report of the whole table, byte for byte, for every number of shards, also where threads gather it; and that a
-//! sink takes that report where it doesn't fail and memory doesn't run out, and a prefix of it in any case.
+//! sink accepts that report where it doesn't fail and memory doesn't run out, and a prefix of it in any case.
 
 mod at_once;
 mod counts;

@@ -15,7 +15,8 @@ abbrev pub after : List Out → Course → Course
 after os s = record s { outs = os ++ s.outs }
 
 -- a choice between two courses
-pub either : (os : List Out) (b : Bool) (x y x' y' : Course) → x' ≡ after os x → y' ≡ after os y → (if b then x' else y') ≡ after os (if b then x else y)
+pub either : (os : List Out) (b : Bool) (x y x' y' : Course) → x' ≡ after os x → y' ≡ after os y
+    → (if b then x' else y') ≡ after os (if b then x else y)
 either os true x y x' y' hx hy = hx
 either os false x y x' y' hx hy = hy
 
@@ -25,7 +26,8 @@ unfolding changes
 changes-after discr v os s = rw append_assoc refl
 
 -- a datagram is sent behind what was put out before
-pub sends-after : (discr : ℕ) (datagram : Datagram) (os : List Out) (s : Course) → sends discr datagram (after os s) ≡ after os (sends discr datagram s)
+pub sends-after : (discr : ℕ) (datagram : Datagram) (os : List Out) (s : Course)
+    → sends discr datagram (after os s) ≡ after os (sends discr datagram s)
 unfolding sends
 sends-after discr datagram os s = rw append_assoc refl
 
@@ -42,21 +44,25 @@ one_more : (P : Out → Type 0) (os : List Out) {o : Out} → AllByRecursion P o
 one_more P [] h own = (own, tt)
 one_more P (x ∷ os) h own = (h.0, one_more P os h.1 own)
 
-told_by : (P : Out → Type 0) (os : List Out) {o : Out} (same : Bool) → AllByRecursion P os → P o → AllByRecursion P (os ++ (if same then [] else o ∷ []))
+told_by : (P : Out → Type 0) (os : List Out) {o : Out} (same : Bool) → AllByRecursion P os → P o
+    → AllByRecursion P (os ++ (if same then [] else o ∷ []))
 told_by P os true h own = rw (append-nil os) h
 told_by P os false h own = one_more P os h own
 
 -- what is true of each output of both courses is true of those of the one that is chosen
-pub chosen_names : (P : Out → Type 0) (b : Bool) (x y : Course) → AllByRecursion P x.outs → AllByRecursion P y.outs → AllByRecursion P (if b then x else y).outs
+pub chosen_names : (P : Out → Type 0) (b : Bool) (x y : Course) → AllByRecursion P x.outs → AllByRecursion P y.outs
+    → AllByRecursion P (if b then x else y).outs
 chosen_names P true x y hx hy = hx
 chosen_names P false x y hx hy = hy
 
 -- a change of state names the discriminator, where anything is told of it
-pub changes_names : (discr : ℕ) (P : Out → Type 0) (v : Vars) (s : Course) → OfOwn discr P → AllByRecursion P s.outs → AllByRecursion P (changes discr v s).outs
+pub changes_names : (discr : ℕ) (P : Out → Type 0) (v : Vars) (s : Course) → OfOwn discr P → AllByRecursion P s.outs
+    → AllByRecursion P (changes discr v s).outs
 unfolding changes
 changes_names discr P v s own h = told_by P s.outs (same_state s.vars.state v.state) h (own.of_changes s.vars.state v.state v.diag)
 
 -- a datagram names the discriminator
-pub sends_names : (discr : ℕ) (P : Out → Type 0) (datagram : Datagram) (s : Course) → OfOwn discr P → AllByRecursion P s.outs → AllByRecursion P (sends discr datagram s).outs
+pub sends_names : (discr : ℕ) (P : Out → Type 0) (datagram : Datagram) (s : Course) → OfOwn discr P → AllByRecursion P s.outs
+    → AllByRecursion P (sends discr datagram s).outs
 unfolding sends
 sends_names discr P datagram s own h = one_more P s.outs h (own.of_packets datagram)

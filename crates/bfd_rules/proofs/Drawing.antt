@@ -1,5 +1,6 @@
 -- The due tick that an event draws, and the one that it leaves.
-use Rattle.std.proofs.Common.{◌≡◌, ◌^◌, ◌-◌, ◌<◌, ◌≤◌, ◌+◌, ◌*◌, ◌/◌, ◌%◌, ◌||◌, ◌==◌, not, ℕ, Bool, true, false, refl, Option, None, Some, is_none, IsSome, arith, if◌then◌else◌}
+use Rattle.std.proofs.Common.{◌≡◌, ◌^◌, ◌-◌, ◌<◌, ◌≤◌, ◌+◌, ◌*◌, ◌/◌, ◌%◌, ◌||◌, ◌==◌, not, ℕ, Bool, true, false, refl, Option, None, Some}
+use Rattle.std.proofs.Common.{is_none, IsSome, arith, if◌then◌else◌}
 use Rattle.std.proofs.lemmas.Bool.{or_parts}
 use Rattle.bfd_num.specs.Numbers.{moment_bound, floor_tick, ceil_tick}
 use Rattle.bfd_rules.specs.declared.variables.Mark.{Mark}

@@ -1,5 +1,6 @@
 -- Variables that an event left as they were: there is no news of them, and their due tick stands.
-use Rattle.std.proofs.Common.{◌≡◌, ◌==◌, ◌&&◌, not, ℕ, Bool, true, false, refl, sym, ap, Option, None, Some, is_none, IsSome, IsTrue, ◌↔◌, if◌then◌else◌}
+use Rattle.std.proofs.Common.{◌≡◌, ◌==◌, ◌&&◌, not, ℕ, Bool, true, false, refl, sym, ap, Option, None, Some, is_none, IsSome, IsTrue, ◌↔◌}
+use Rattle.std.proofs.Common.{if◌then◌else◌}
 use Rattle.std.proofs.lemmas.Bool.{eq-eqb}
 use Rattle.bfd_packet.specs.declared.control.State.{State}
 use Rattle.bfd_packet.specs.declared.control.State.TheVariants.{AdminDown, Down, Init, Up}
@@ -47,7 +48,8 @@ gone : (o : Option ℕ) {b : Bool} → (IsSome o ↔ IsTrue b) → b ≡ false �
 gone None both h = refl
 gone (Some x) {b} both h = let true_too = both.0 refl in cc
 
-drawn_by : (active : Bool) (v : Vars) (may : Bool) → may_send active v ≡ may → (IsSome v.tx_due ↔ IsTrue (may_send active v)) → drawn active (begins v) v ≡ v
+drawn_by : (active : Bool) (v : Vars) (may : Bool) → may_send active v ≡ may → (IsSome v.tx_due ↔ IsTrue (may_send active v))
+    → drawn active (begins v) v ≡ v
 unfolding drawn
 drawn_by active v true is due = rw (is, draw_stands v (due.1 is)) refl
 drawn_by active v false is due = rw is (ap (λ o. record v { tx_due = o }) (sym (gone v.tx_due due is)))

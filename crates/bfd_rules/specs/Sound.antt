@@ -1,6 +1,7 @@
 -- The variables of a point-to-point session that can come up, in three stages (RFC 5880 section 6.8.1): what the
 -- raw variables of a rule meet, what holds after each rule, and what holds between events.
-use Rattle.std.specs.Prelude.{◌≡◌, ◌≤◌, ◌<◌, ◌↔◌, ℕ, ◌==◌, nat_le, Bool, true, ◌&&◌, ◌||◌, Option, None, Some, IsTrue, IsSome, IfSome, length, ◌^◌}
+use Rattle.std.specs.Prelude.{◌≡◌, ◌≤◌, ◌<◌, ◌↔◌, ℕ, ◌==◌, nat_le, Bool, true, ◌&&◌, ◌||◌, Option, None, Some, IsTrue, IsSome, IfSome}
+use Rattle.std.specs.Prelude.{length, ◌^◌}
 use Rattle.bfd_packet.specs.declared.control.State.TheVariants.{Up}
 use Rattle.bfd_packet.specs.KeyChain.{KeyChain}
 use Rattle.bfd_num.specs.Numbers.{moment_bound}

@@ -51,7 +51,7 @@ pub fn enters(state: State, diag: u8, v: Vars) -> Vars
     Vars { state, diag, ..v }
 }
 
-/// The variables become `after`; where the state differs, that is told with the new diagnostic.
+/// The variables become `after`; where the state differs, that is emitted with the new diagnostic.
 #[tactic(auto, unfolding(crate::specs::EventFrame::changes))]
 pub fn changes(discr: u32, after: Vars, vars: &mut Vars, outs: &mut Outs)
     requires { 0 < outs.old.spare }
@@ -84,7 +84,7 @@ pub fn sends(discr: u32, datagram: Datagram, outs: &mut Outs)
     outs.push(Out::Sent { discr, datagram });
 }
 
-/// The peer is told the present state and diagnostic by a periodic packet.
+/// A periodic packet sends the present state and diagnostic to the peer.
 pub fn tells(v: &Vars, mark: &mut Mark)
     ensures { mark.new ≡ frame.tells v.now mark.old }
 {
@@ -93,14 +93,14 @@ pub fn tells(v: &Vars, mark: &mut Mark)
     mark.diag = v.diag;
 }
 
-/// The state or diagnostic isn't the one that the event began with, or that its periodic packet told.
+/// The state or diagnostic isn't the one that the event began with, or that its periodic packet sent.
 fn is_news(mark: &Mark, v: &Vars) -> bool
     ensures { result ≡ frame.is_news mark.now v.now }
 {
     !(same_state(v.state, mark.state) && v.diag == mark.diag)
 }
 
-/// A state or diagnostic that the peer hasn't been told is to be told now: no packet with F has told it, and a packet
+/// A state or diagnostic that wasn't sent to the peer is to be sent now: no packet with F has sent it, and a packet
 /// may be sent (section 6.8.7).
 pub fn is_untold(active: bool, mark: &Mark, v: &Vars) -> bool
     ensures { result ≡ frame.is_untold active mark.now v.now }

@@ -1,4 +1,4 @@
-//! What an event puts out, in a list whose room is made before.
+//! What an event emits, in a list whose room is made before.
 ghost use Rattle.std.specs.Prelude.{◌≡◌, ◌≤◌, ◌<◌, ◌+◌, ◌++◌, [], ◌∷◌, IfOk, OnOk, OnErr, length};
 
 use bfd_packet::{Datagram, State};
@@ -74,7 +74,7 @@ impl Outs {
         self.room - self.list.len()
     }
 
-    /// Hands the outputs over; then all the room is free again. Fails only when out of memory, and then all is as it was.
+    /// Returns the outputs; then all the room is free again. Fails only when out of memory, and then all is as it was.
     pub fn take(&mut self) -> Result<Vec<Out>, AllocError>
         ensures taken { IfOk result (λ list. list.items ≡ self.old.items) }
         ensures free { OnOk result (self.new ≡ record { items = []; spare = self.old.room; room = self.old.room }) }
@@ -83,7 +83,7 @@ impl Outs {
         self.list.split_off(0)
     }
 
-    /// Appends one output. Takes no memory.
+    /// Appends one output. Allocates no memory.
     pub fn push(&mut self, out: Out)
         requires { 0 < self.old.spare }
         ensures items { self.new.items ≡ self.old.items ++ out ∷ [] }

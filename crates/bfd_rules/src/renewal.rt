@@ -11,7 +11,7 @@ use crate::quantities::is_idle;
 use crate::{Poll, Vars, adv_tx, demand_here};
 use bfd_packet::State;
 
-/// A change of the advertised Desired Min TX or of Required Min RX wants a Poll Sequence.
+/// A change of the advertised Desired Min TX or of Required Min RX needs a Poll Sequence.
 #[tactic(auto, unfolding(crate::specs::Renewal::poll_renewed))]
 fn poll_renewed(before: &Vars, v: &mut Vars)
     ensures value { v.new ≡ renewal.poll_renewed before.now v.old }
@@ -74,7 +74,7 @@ fn demand_renewed(eff: u64, before: &Vars, v: &mut Vars)
 }
 
 /// Renews the variables `v` that a rule made of the variables `before`, at the effective moment `eff`, in
-/// microseconds: a changed interval wants a Poll Sequence (sections 6.5 and 6.8.3), the intervals in use follow, and
+/// microseconds: a changed interval needs a Poll Sequence (sections 6.5 and 6.8.3), the intervals in use follow, and
 /// where Demand mode begins or ends here the poll or the Detection Time begins anew (section 6.6).
 #[tactic(auto, unfolding(crate::specs::Renewal::renewed))]
 pub fn renew(eff: u64, before: &Vars, v: &mut Vars)

@@ -63,9 +63,9 @@ pub struct Vars {
     pub left: u8,
     /// When the last periodic or extra packet was sent.
     pub base: u64,
-    /// The tick at which the next periodic packet is due, there exactly while one may be sent.
+    /// The tick at which the next periodic packet is due, present exactly while one may be sent.
     pub tx_due: Option<u64>,
-    /// The draw that the next due tick takes.
+    /// The draw that the next due tick uses.
     pub j: u32,
     /// The effective moment of the last own event.
     pub at: u64,
@@ -74,9 +74,9 @@ pub struct Vars {
 /// What an event keeps from its start.
 #[derive(Clone, Copy)]
 pub struct Mark {
-    /// The state that was last told to the peer: that of the start, or of a periodic packet since.
+    /// The state that was last sent to the peer: that of the start, or of a periodic packet since.
     pub state: State,
-    /// The diagnostic that was last told, likewise.
+    /// The diagnostic that was last sent, likewise.
     pub diag: u8,
     /// The transmit interval at the start, in microseconds.
     pub interval: u32,

@@ -1,5 +1,7 @@
 -- Names that proofs of this crate cite, passed on from one place. Declares nothing.
-pub use Rattle.std.proofs.Common.{Bool, Err, IfSome, IsSome, List, None, Ok, Option, Some, [], ap, arith, false, find, get_or, if◌then◌else◌, inl, inr, is_some, length, refl, rules, suc, sym, true, zero, ℕ, ◌&&◌, ◌<◌, ◌==◌, ◌^◌, ◌↔◌, ◌∙◌, ◌∷◌, ◌≡◌, ◌≤◌}
+pub use Rattle.std.proofs.Common.{Bool, Err, IfSome, IsSome, List, None, Ok, Option, Some, [], ap, arith, false, find, get_or}
+pub use Rattle.std.proofs.Common.{if◌then◌else◌, inl, inr, is_some, length, refl, rules, suc, sym, true, zero, ℕ, ◌&&◌, ◌<◌, ◌==◌, ◌^◌, ◌↔◌}
+pub use Rattle.std.proofs.Common.{◌∙◌, ◌∷◌, ◌≡◌, ◌≤◌}
 pub use Rattle.bfd_num.specs.Due.{has_come}
 pub use Rattle.bfd_num.specs.Numbers.{floor_tick, moment_bound, next_j}
 pub use Rattle.bfd_packet.specs.Layout.{fields_of}
@@ -19,7 +21,8 @@ unfoldable pub use Rattle.bfd_sbfd.specs.Transmit.{transmits}
 pub use Rattle.bfd_sbfd.specs.Waiting.{deadline}
 pub use Rattle.bfd_sbfd.specs.declared.config.SeekConfig.{SeekConfig}
 pub use Rattle.std.proofs.lemmas.Grind.{common_steps}
-pub use Rattle.bfd_rules.proofs.Courses.{OfOwn, after, changes-after, changes_names, chosen_names, either, own_name, sends-after, sends_names}
+pub use Rattle.bfd_rules.proofs.Courses.{OfOwn, after, changes-after, changes_names, chosen_names, either, own_name, sends-after}
+pub use Rattle.bfd_rules.proofs.Courses.{sends_names}
 pub use Rattle.std.specs.List.{AllByRecursion}
 pub use Rattle.std.proofs.lemmas.Bool.Decides.{nat_tests}
 pub use Rattle.bfd_sbfd.specs.declared.reflecting.Reflector.{Reflector}

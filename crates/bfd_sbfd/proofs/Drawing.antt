@@ -1,5 +1,7 @@
 -- The due tick that an event leaves keeps the variables sound.
-use Rattle.bfd_sbfd.proofs.Common.{◌≡◌, ◌^◌, ◌<◌, ℕ, Bool, true, false, refl, Option, None, Some, IfSome, arith, if◌then◌else◌, moment_bound, next_j, Vars, may_send, tx_interval, draws, drawn, SeekConfig, IsSeekPlain, IsSeekSteady, IsSeekSound, common_steps}
+use Rattle.bfd_sbfd.proofs.Common.{◌≡◌, ◌^◌, ◌<◌, ℕ, Bool, true, false, refl, Option, None, Some, IfSome, arith, if◌then◌else◌}
+use Rattle.bfd_sbfd.proofs.Common.{moment_bound, next_j, Vars, may_send, tx_interval, draws, drawn, SeekConfig, IsSeekPlain, IsSeekSteady}
+use Rattle.bfd_sbfd.proofs.Common.{IsSeekSound, common_steps}
 use Rattle.bfd_rules.specs.declared.variables.Mark.{Mark}
 use Rattle.bfd_rules.specs.Jitter.{pick}
 use Rattle.bfd_rules.proofs.Drawing.{picked_below, stands_there}
@@ -7,17 +9,20 @@ use Rattle.bfd_rules.proofs.Drawing.{picked_below, stands_there}
 interval_few : {c : SeekConfig} {v : Vars} → IsSeekSteady c v → tx_interval v < 2 ^ 32
 interval_few steady = grind (arith, common_steps)
 
-due_plain : {c : SeekConfig} {v : Vars} (due : Option ℕ) (j : ℕ) → IfSome due (λ t. t < moment_bound) → IsSeekPlain c v → IsSeekPlain c (record v { tx_due = due; j = j })
+due_plain : {c : SeekConfig} {v : Vars} (due : Option ℕ) (j : ℕ) → IfSome due (λ t. t < moment_bound) → IsSeekPlain c v
+    → IsSeekPlain c (record v { tx_due = due; j = j })
 due_plain due j h plain = grind (arith, common_steps)
 
-due_steady : {c : SeekConfig} {v : Vars} (due : Option ℕ) (j : ℕ) → IfSome due (λ t. t < moment_bound) → IsSeekSteady c v → IsSeekSteady c (record v { tx_due = due; j = j })
+due_steady : {c : SeekConfig} {v : Vars} (due : Option ℕ) (j : ℕ) → IfSome due (λ t. t < moment_bound) → IsSeekSteady c v
+    → IsSeekSteady c (record v { tx_due = due; j = j })
 due_steady due j h steady = record { plain = due_plain due j h steady.plain; in_use = steady.in_use }
 
 drawn_by : {c : SeekConfig} (m : Mark) {v : Vars} (may anew : Bool) → may_send true v ≡ may → draws m v ≡ anew → IsSeekSteady c v
     → IsSeekSound c (if may then (if anew then record v { tx_due = Some (pick v.base (tx_interval v) v.mult v.j); j = next_j v.j } else v)
     else record v { tx_due = None })
 drawn_by m {v} true true is anew steady = record {
-  steady = due_steady (Some (pick v.base (tx_interval v) v.mult v.j)) (next_j v.j) (picked_below v (interval_few steady) steady.plain.base_below) steady;
+  steady = due_steady (Some (pick v.base (tx_interval v) v.mult v.j)) (next_j v.j)
+      (picked_below v (interval_few steady) steady.plain.base_below) steady;
   due = (λ _. is, λ _. refl);
 }
 drawn_by m {v} true false is anew steady = record { steady = steady; due = (λ _. is, λ _. stands_there m v anew) }

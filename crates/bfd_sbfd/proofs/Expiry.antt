@@ -1,5 +1,6 @@
 -- A tick forgets the last answer exactly where the deadline has come by its limit.
-use Rattle.bfd_sbfd.proofs.Common.{◌≡◌, ◌&&◌, ◌↔◌, ◌∙◌, ℕ, Bool, true, false, refl, None, IsSome, if◌then◌else◌, floor_tick, has_come, may_send, Course, changes, sends, is_untold, redrawn, SeekConfig, deadline, moves, transmits}
+use Rattle.bfd_sbfd.proofs.Common.{◌≡◌, ◌&&◌, ◌↔◌, ◌∙◌, ℕ, Bool, true, false, refl, None, IsSome, if◌then◌else◌, floor_tick, has_come}
+use Rattle.bfd_sbfd.proofs.Common.{may_send, Course, changes, sends, is_untold, redrawn, SeekConfig, deadline, moves, transmits}
 use Rattle.bfd_rules.proofs.Heard.{alike, drawn_heard, exactly}
 use Rattle.bfd_sbfd.specs.Settle as settling
 use Rattle.bfd_sbfd.specs.Finish as finishing
@@ -36,7 +37,8 @@ finish_heard c eff s =
 -- what a tick leaves of the last answer
 
 pub tick_heard : (c : SeekConfig) (limit eff : ℕ) (s : Course)
-    → (finishing.finish c eff (settling.settle c limit eff s)).vars.heard ≡ (if has_come limit (deadline s.vars) then None else s.vars.heard)
+    → (finishing.finish c eff (settling.settle c limit eff s)).vars.heard
+    ≡ (if has_come limit (deadline s.vars) then None else s.vars.heard)
 tick_heard c limit eff s = finish_heard c eff (settling.settle c limit eff s) ∙ settle_heard c limit eff s
 
 -- one that was there is gone exactly where the deadline has come by the limit

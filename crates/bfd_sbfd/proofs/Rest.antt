@@ -1,6 +1,7 @@
 -- An event by which nothing is due, and which does nothing of its own, leaves sound variables as they are and puts
 -- nothing out.
-use Rattle.bfd_sbfd.proofs.Common.{◌≡◌, ℕ, true, false, refl, List, floor_tick, has_come, Out, Vars, Course, course, begins, redrawn, SeekConfig, deadline, IsSeekSound}
+use Rattle.bfd_sbfd.proofs.Common.{◌≡◌, ℕ, true, false, refl, List, floor_tick, has_come, Out, Vars, Course, course, begins, redrawn}
+use Rattle.bfd_sbfd.proofs.Common.{SeekConfig, deadline, IsSeekSound}
 use Rattle.bfd_rules.proofs.Still.{no_news, drawn_stands}
 use Rattle.bfd_sbfd.specs.Settle as settling
 use Rattle.bfd_sbfd.specs.Finish as finishing
@@ -24,4 +25,7 @@ finish_rests eff {v} os sound = rw (no_news v, drawn_stands true v sound.due) re
 pub tick_rests : (c : SeekConfig) (limit eff : ℕ) (v : Vars) (os : List Out) → IsSeekSound c v
     → has_come limit (deadline v) ≡ false → has_come (floor_tick limit) v.tx_due ≡ false
     → finishing.finish c eff (settling.settle c limit eff (course v (begins v) os)) ≡ course v (begins v) os
-tick_rests c limit eff v os sound late due_later = cc (settle_rests c limit eff (course v (begins v) os) late due_later, finish_rests eff os sound)
+tick_rests c limit eff v os sound late due_later = cc (
+  settle_rests c limit eff (course v (begins v) os) late due_later,
+  finish_rests eff os sound,
+)

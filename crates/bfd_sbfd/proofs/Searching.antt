@@ -1,5 +1,6 @@
 -- What a binary search of an ascending pool finds is the reflector with the discriminator.
-use Rattle.bfd_sbfd.proofs.Common.{◌≡◌, ◌<◌, ◌≤◌, ◌==◌, ℕ, zero, suc, false, List, [], ◌∷◌, length, get_or, refl, sym, ap, arith, inl, inr, None, Some, Ok, Err, find, AllByRecursion, nat_tests, Reflector}
+use Rattle.bfd_sbfd.proofs.Common.{◌≡◌, ◌<◌, ◌≤◌, ◌==◌, ℕ, zero, suc, false, List, [], ◌∷◌, length, get_or, refl, sym, ap, arith, inl, inr}
+use Rattle.bfd_sbfd.proofs.Common.{None, Some, Ok, Err, find, AllByRecursion, nat_tests, Reflector}
 use Rattle.std.proofs.Math.Nat.{eq-or-lt_of_le}
 use Rattle.std.proofs.lemmas.Cmp.{ranked}
 use Rattle.std.specs.List.Sorted.{IsSearchInRange, IsBinarySearchResult, IsNonDecreasingBy}
@@ -14,7 +15,8 @@ each_at P (x ∷ xs) zero d h within = h.0
 each_at P (x ∷ xs) (suc k) d h within = each_at P xs k d h.1 (omega arith)
 
 -- the discriminators ascend from place to place
-ascend : (xs : List Reflector) (i j : ℕ) (d : Reflector) → Ascends xs → i < j → j < length xs → (get_or xs i d).discr < (get_or xs j d).discr
+ascend : (xs : List Reflector) (i j : ℕ) (d : Reflector) → Ascends xs → i < j → j < length xs
+    → (get_or xs i d).discr < (get_or xs j d).discr
 ascend [] i j d up before within = absurd (omega arith)
 ascend (x ∷ xs) i zero d up before within = absurd (omega arith)
 ascend (x ∷ xs) zero (suc j) d up before within = each_at (λ later. x.discr < later.discr) xs j d up.0 (omega arith)
@@ -43,7 +45,8 @@ first_found (x ∷ xs) discr (suc at) d within other same = rw (ne_eqb x.discr d
 none_found : (xs : List Reflector) (discr : ℕ) (d : Reflector)
     → ((k : ℕ) → k < length xs → (get_or xs k d).discr ≡ discr → ⊥) → find (λ (r : Reflector). r.discr == discr) xs ≡ None
 none_found [] discr d other = refl
-none_found (x ∷ xs) discr d other = rw (ne_eqb x.discr discr (other 0 (omega arith))) (none_found xs discr d (λ k lt. other (suc k) (omega arith)))
+none_found (x ∷ xs) discr d other = rw (ne_eqb x.discr discr (other 0 (omega arith)))
+    (none_found xs discr d (λ k lt. other (suc k) (omega arith)))
 
 lower : {a : ℕ} (discr : ℕ) → a < discr → a ≡ discr → ⊥
 lower discr less same = grind arith
@@ -53,7 +56,8 @@ pub differs : (a discr at k : ℕ) → (k < at → a < discr) → (at ≤ k → 
 differs a discr at k below above same = grind arith
 
 found : (xs : List Reflector) (discr at : ℕ) (d : Reflector) → Ascends xs → IsSearchInRange (Ok at) (length xs)
-    → IsBinarySearchResult (λ (r : Reflector). nat_cmp r.discr discr) xs (Ok at) → find (λ (r : Reflector). r.discr == discr) xs ≡ Some (get_or xs at d)
+    → IsBinarySearchResult (λ (r : Reflector). nat_cmp r.discr discr) xs (Ok at)
+    → find (λ (r : Reflector). r.discr == discr) xs ≡ Some (get_or xs at d)
 found xs discr at d up within equal =
     let same = ranked _ discr _ (sym (equal d)) in
     first_found xs discr at d within (λ k lt. lower discr (omega (arith, ascend xs k at d up lt within, same))) same

@@ -1,5 +1,8 @@
 -- Each part of an event keeps variables steady, and the end of an event makes them sound.
-use Rattle.bfd_sbfd.proofs.Common.{◌≡◌, ◌^◌, ◌<◌, ◌&&◌, ℕ, Bool, true, false, refl, Some, IsSome, is_some, List, arith, if◌then◌else◌, Control, fields_of, moment_bound, floor_tick, has_come, Cmd, Vars, may_send, is_admin_down, Course, changes, sends, stamped, is_untold, based, redrawn, SeekConfig, deadline, IsSeekPlain, IsSeekSteady, IsSeekSound, moves, in_use, transmits, refusal, commanded, done, common_steps, nat_tests}
+use Rattle.bfd_sbfd.proofs.Common.{◌≡◌, ◌^◌, ◌<◌, ◌&&◌, ℕ, Bool, true, false, refl, Some, IsSome, is_some, List, arith, if◌then◌else◌}
+use Rattle.bfd_sbfd.proofs.Common.{Control, fields_of, moment_bound, floor_tick, has_come, Cmd, Vars, may_send, is_admin_down, Course}
+use Rattle.bfd_sbfd.proofs.Common.{changes, sends, stamped, is_untold, based, redrawn, SeekConfig, deadline, IsSeekPlain, IsSeekSteady}
+use Rattle.bfd_sbfd.proofs.Common.{IsSeekSound, moves, in_use, transmits, refusal, commanded, done, common_steps, nat_tests}
 use Rattle.bfd_packet.specs.declared.control.State.{State}
 use Rattle.bfd_packet.specs.declared.control.State.TheVariants.{AdminDown, Down, Init, Up}
 use Rattle.bfd_rules.specs.declared.commands.Cmd.TheVariants.{Disable, Enable, Tx, Mult}
@@ -22,7 +25,8 @@ moves_steady : {c : SeekConfig} {v : Vars} (s : Course) → IsSeekPlain c v → 
 unfolding moves changes
 moves_steady s plain = in_use_steady plain
 
-choice_steady : {c : SeekConfig} (b : Bool) (x y : Course) → IsSeekSteady c x.vars → IsSeekSteady c y.vars → IsSeekSteady c (if b then x else y).vars
+choice_steady : {c : SeekConfig} (b : Bool) (x y : Course) → IsSeekSteady c x.vars → IsSeekSteady c y.vars
+    → IsSeekSteady c (if b then x else y).vars
 choice_steady true x y hx hy = hx
 choice_steady false x y hx hy = hy
 
@@ -39,17 +43,20 @@ unfolding settling.detection
 detection_steady {c} limit s steady = choice_steady (has_come limit (deadline s.vars)) (moves c.discr (settling.silenced s.vars) s) s
     (moves_steady s (silenced_plain steady.plain)) steady
 
-periodic_packet_steady : {c : SeekConfig} {eff : ℕ} (s : Course) → eff < moment_bound → IsSeekSteady c s.vars → IsSeekSteady c (settling.periodic_packet c eff s).vars
+periodic_packet_steady : {c : SeekConfig} {eff : ℕ} (s : Course) → eff < moment_bound → IsSeekSteady c s.vars
+    → IsSeekSteady c (settling.periodic_packet c eff s).vars
 unfolding settling.periodic_packet
 periodic_packet_steady s h steady = based_steady h steady
 
-periodic_steady : {c : SeekConfig} (limit : ℕ) {eff : ℕ} (s : Course) → eff < moment_bound → IsSeekSteady c s.vars → IsSeekSteady c (settling.periodic c limit eff s).vars
+periodic_steady : {c : SeekConfig} (limit : ℕ) {eff : ℕ} (s : Course) → eff < moment_bound → IsSeekSteady c s.vars
+    → IsSeekSteady c (settling.periodic c limit eff s).vars
 unfolding settling.periodic
 periodic_steady {c} limit {eff} s h steady =
     choice_steady (has_come (floor_tick limit) s.vars.tx_due && may_send true s.vars) (settling.periodic_packet c eff s) s
     (periodic_packet_steady s h steady) steady
 
-settle_steady : {c : SeekConfig} (limit : ℕ) {eff : ℕ} (s : Course) → eff < moment_bound → IsSeekSteady c s.vars → IsSeekSteady c (settling.settle c limit eff s).vars
+settle_steady : {c : SeekConfig} (limit : ℕ) {eff : ℕ} (s : Course) → eff < moment_bound → IsSeekSteady c s.vars
+    → IsSeekSteady c (settling.settle c limit eff s).vars
 unfolding settling.settle
 settle_steady {c} limit s h steady = periodic_steady limit (settling.detection c limit s) h (detection_steady limit s steady)
 
@@ -69,7 +76,8 @@ up_plain there plain = grind (arith, common_steps)
 down_plain : {c : SeekConfig} {v : Vars} → IsSeekPlain c v → IsSeekPlain c (record v { state = Down; diag = 3 })
 down_plain plain = grind (arith, common_steps)
 
-machine_plain : {c : SeekConfig} (own received : State) {v : Vars} → IsSome v.heard → IsSeekPlain c v → IsSeekPlain c (receiving.machine own received v)
+machine_plain : {c : SeekConfig} (own received : State) {v : Vars} → IsSome v.heard → IsSeekPlain c v
+    → IsSeekPlain c (receiving.machine own received v)
 machine_plain Down Up there plain = up_plain there plain
 machine_plain Up AdminDown there plain = down_plain plain
 machine_plain AdminDown AdminDown there plain = plain
@@ -78,7 +86,8 @@ machine_plain AdminDown Init there plain = plain
 machine_plain Init AdminDown there plain = plain
 machine_plain own received there plain = plain
 
-accepted_steady : {c : SeekConfig} {eff : ℕ} (packet : Control) (s : Course) → eff < moment_bound → packet.min_rx < 2 ^ 32 → IsSeekSteady c s.vars
+accepted_steady : {c : SeekConfig} {eff : ℕ} (packet : Control) (s : Course) → eff < moment_bound → packet.min_rx < 2 ^ 32
+    → IsSeekSteady c s.vars
     → IsSeekSteady c (receiving.accepted c eff packet s).vars
 unfolding receiving.accepted receiving.keeps_fields receiving.moves_state
 accepted_steady {c} {eff} packet s h few steady =
@@ -87,11 +96,13 @@ accepted_steady {c} {eff} packet s h few steady =
     choice_steady (is_admin_down t.vars.state) t (receiving.moves_state c packet t) kept
     (moves_steady t (machine_plain t.vars.state packet.state refl kept.plain))
 
-received_steady : {c : SeekConfig} {eff : ℕ} (raw : List ℕ) (s : Course) → eff < moment_bound → (fields_of raw).min_rx < 2 ^ 32 → IsSeekSteady c s.vars
+received_steady : {c : SeekConfig} {eff : ℕ} (raw : List ℕ) (s : Course) → eff < moment_bound → (fields_of raw).min_rx < 2 ^ 32
+    → IsSeekSteady c s.vars
     → IsSeekSteady c (receiving.received c eff raw s).vars
 unfolding receiving.received
 received_steady {c} {eff} raw s h few steady =
-    choice_steady (fields_of raw).auth s (receiving.accepted c eff (fields_of raw) s) steady (accepted_steady (fields_of raw) s h few steady)
+    choice_steady (fields_of raw).auth s (receiving.accepted c eff (fields_of raw) s) steady
+    (accepted_steady (fields_of raw) s h few steady)
 
 -- commands
 
@@ -113,11 +124,14 @@ commanded_steady cmd s steady = command_by cmd s (is_some (refusal s.vars cmd)) 
 
 -- the end of an event
 
-extra_steady : {c : SeekConfig} {eff : ℕ} (s : Course) → eff < moment_bound → IsSeekSteady c s.vars → IsSeekSteady c (finishing.extra c eff s).vars
+extra_steady : {c : SeekConfig} {eff : ℕ} (s : Course) → eff < moment_bound → IsSeekSteady c s.vars
+    → IsSeekSteady c (finishing.extra c eff s).vars
 unfolding finishing.extra transmits sends
-extra_steady {c} {eff} s h steady = choice_steady (is_untold true s.mark s.vars) (based eff (transmits c s)) s (based_steady h steady) steady
+extra_steady {c} {eff} s h steady = choice_steady (is_untold true s.mark s.vars) (based eff (transmits c s)) s (based_steady h steady)
+    steady
 
-finish_sound : {c : SeekConfig} {eff : ℕ} (s : Course) → eff < moment_bound → IsSeekSteady c s.vars → IsSeekSound c (finishing.finish c eff s).vars
+finish_sound : {c : SeekConfig} {eff : ℕ} (s : Course) → eff < moment_bound → IsSeekSteady c s.vars
+    → IsSeekSound c (finishing.finish c eff s).vars
 unfolding finishing.finish redrawn
 finish_sound {c} {eff} s h steady =
     let t : Course = finishing.extra c eff s in drawn_sound c t.mark _ (extra_steady s h steady)
@@ -128,7 +142,8 @@ pub tick_sound : (c : SeekConfig) (limit eff : ℕ) (s : Course) → eff < momen
     → IsSeekSound c (finishing.finish c eff (settling.settle c limit eff s)).vars
 tick_sound c limit eff s h steady = finish_sound (settling.settle c limit eff s) h (settle_steady limit s h steady)
 
-pub packet_sound : (c : SeekConfig) (limit eff : ℕ) (raw : List ℕ) (s : Course) → eff < moment_bound → (fields_of raw).min_rx < 2 ^ 32 → IsSeekSteady c s.vars
+pub packet_sound : (c : SeekConfig) (limit eff : ℕ) (raw : List ℕ) (s : Course) → eff < moment_bound → (fields_of raw).min_rx < 2 ^ 32
+    → IsSeekSteady c s.vars
     → IsSeekSound c (finishing.finish c eff (receiving.received c eff raw (settling.settle c limit eff s))).vars
 packet_sound c limit eff raw s h few steady = finish_sound (receiving.received c eff raw (settling.settle c limit eff s)) h
     (received_steady raw (settling.settle c limit eff s) h few (settle_steady limit s h steady))

@@ -1,5 +1,6 @@
 -- The reflector (RFC 7880 sections 5 and 7.2, RFC 7881 section 6): its answer as a function of one arrival and the pool.
-use Rattle.std.specs.Prelude.{◌<◌, ◌==◌, ◌++◌, ℕ, Bool, not, false, if◌then◌else◌, Option, None, Some, is_none, Result, Ok, Err, List, [], ◌∷◌, find}
+use Rattle.std.specs.Prelude.{◌<◌, ◌==◌, ◌++◌, ℕ, Bool, not, false, if◌then◌else◌, Option, None, Some, is_none, Result, Ok, Err, List, []}
+use Rattle.std.specs.Prelude.{◌∷◌, find}
 use Rattle.std.specs.List.{AllByRecursion}
 use Rattle.bfd_packet.specs.declared.control.State.{State}
 use Rattle.bfd_packet.specs.declared.control.State.TheVariants.{AdminDown, Up}

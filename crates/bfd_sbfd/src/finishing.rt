@@ -13,7 +13,7 @@ use crate::SeekConfig;
 use crate::transmitting::transmits;
 use bfd_rules::{Mark, Outs, Vars, drawn, is_untold};
 
-/// A changed state or diagnostic is told immediately, unless none may be sent.
+/// A changed state or diagnostic is sent immediately, unless none may be sent.
 #[tactic(auto, unfolding(crate::specs::Finish::extra))]
 fn extra(config: &SeekConfig, eff: u64, vars: &mut Vars, mark: &mut Mark, outs: &mut Outs)
     requires steady { IsSeekSteady config.now vars.old }

@@ -14,6 +14,7 @@ fn in_use(config: &SeekConfig, v: Vars) -> Vars
     ensures value { result ≡ frame.in_use v }
     ensures steady { IsSeekSteady config.now result }
 {
+    // proof: the read brings the invariant
     let _ = config.discr;
     Vars {
         used_tx: adv_tx(&v),
@@ -21,7 +22,7 @@ fn in_use(config: &SeekConfig, v: Vars) -> Vars
     }
 }
 
-/// The rule makes `after` of the variables, and a new state is told.
+/// The rule makes `after` of the variables, and a new state is emitted.
 #[tactic(auto, unfolding(crate::specs::Frame::moves))]
 pub fn moves(config: &SeekConfig, after: Vars, vars: &mut Vars, outs: &mut Outs)
     requires plain { IsSeekPlain config.now after }

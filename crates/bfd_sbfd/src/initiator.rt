@@ -184,6 +184,7 @@ impl Initiator {
         ensures spare { outs.old.spare ≤ outs.new.spare + 1 }
         ensures room { outs.new.room ≡ outs.old.room }
     {
+        // proof: names what the clauses speak of and the body does not use
         let _ = (ttl, mark.moved);
         receives(&self.config, eff, raw, &mut self.vars, outs)
     }
@@ -206,11 +207,12 @@ impl Initiator {
         ensures spare { outs.old.spare ≤ outs.new.spare + 1 }
         ensures room { outs.new.room ≡ outs.old.room }
     {
+        // proof: names what the clauses speak of and the body does not use
         let _ = (eff, mark.moved);
         commands(&self.config, cmd, &mut self.vars, outs)
     }
 
-    /// Ends an event: a state or diagnostic that changed in it, and that no periodic packet of it told, is told by one
+    /// Ends an event: a state or diagnostic that changed in it, and that no periodic packet of it sent, is sent in one
     /// packet where one may be sent, and the next due tick is drawn (RFC 5880 section 6.8.7). Adds at most one output.
     pub fn finish(&mut self, eff: u64, mark: Mark, outs: &mut Outs)
         requires eff { eff < moment_bound }

@@ -16,9 +16,9 @@ ghost use Rattle.bfd_sbfd.specs.Command.{commanded};
 ghost use Rattle.bfd_sbfd.specs.Finish.{finish};
 ghost use Rattle.bfd_rules.specs.Names.{AllNamed};
 
-/// Laws, and no work. With sound variables a tick by which nothing is due leaves the variables as they are and puts nothing
-/// out, so a caller may hand a tick to the due sessions alone. A tick, a packet and a command keep variables sound. A
-/// tick forgets the last answer exactly where the deadline has come by its limit. And each output of every part of an
+/// Laws, and no work. With sound variables a tick by which nothing is due leaves the variables as they are and emits
+/// nothing, so a caller may hand a tick to the due sessions alone. A tick, a packet and a command keep variables sound. A
+/// tick forgets the last answer if and only if the deadline has come by its limit. And each output of every part of an
 /// event names the session's discriminator.
 #[tactic(auto, using(crate::proofs::Rest::tick_rests, crate::proofs::Soundness::tick_sound, crate::proofs::Soundness::packet_sound, crate::proofs::Soundness::command_sound, crate::proofs::Expiry::expires, crate::proofs::Naming::settle_named, crate::proofs::Naming::received_named, crate::proofs::Naming::commanded_named, crate::proofs::Naming::finish_named))]
 pub fn initiator_laws()

@@ -5,7 +5,7 @@
 //! `command`, or nothing; then `finish`. Moments are handed in, and what the session sends is appended to a list. A
 //! reflector is a function of one arrival and the pool: `reflect`.
 //!
-//! The initiator's state machine (RFC 7880 section 7.3.1); an arrow names the received states that take it, and in
+//! The initiator's state machine (RFC 7880 section 7.3.1); an arrow names the received states that cause it, and in
 //! AdminDown, which a command enters and leaves, no received state does anything:
 //!
 //! ```text
@@ -22,7 +22,7 @@
 //!
 //! It stands on `bfd_rules`. It promises that each call of `Initiator` is its part of an event by the definitions of
 //! `specs/`, for all sound variables, every packet that passes the header tests and every command; that soundness is kept;
-//! that `reflect` is its definition for every ascending pool and every arrival; and that no call takes memory.
+//! that `reflect` is its definition for every ascending pool and every arrival; and that no call allocates memory.
 #![tactic(auto)]
 
 mod commanding;

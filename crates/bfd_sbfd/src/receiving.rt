@@ -35,6 +35,7 @@ fn keeps_fields(config: &SeekConfig, eff: u64, packet: &Control, vars: &mut Vars
     ensures course { (m : Mark) (os : List Out)
         → course vars.new m os ≡ receive.keeps_fields eff packet.now (course vars.old m os) }
 {
+    // proof: the read brings the invariant
     let _ = config.discr;
     let min_rx = min_rx_of(packet);
     *vars = Vars {
@@ -58,7 +59,7 @@ fn machine(received: State, v: &Vars) -> Vars
     }
 }
 
-/// The state machine takes the received state.
+/// The state machine handles the received state.
 #[tactic(auto, unfolding(crate::specs::Receive::moves_state))]
 fn moves_state(config: &SeekConfig, packet: &Control, vars: &mut Vars, outs: &mut Outs)
     requires steady { IsSeekSteady config.now vars.old }

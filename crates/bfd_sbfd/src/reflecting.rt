@@ -17,7 +17,7 @@ pub struct Reflector {
     pub discr: u32,
     /// The Required Min RX Interval that it advertises, in microseconds.
     pub rx: u32,
-    /// Up; otherwise it was told AdminDown, and says so in its answers.
+    /// Up; otherwise it was set to AdminDown, and says so in its answers.
     pub up: bool,
 }
 
@@ -89,7 +89,7 @@ fn fields(payload: &[u8]) -> Result<Control, Test>
 
 /// The answer of this reflector, which the packet's Your Discriminator names, or the first of the tests AuthUnexpected and NotDemand
 /// that the packet fails, from its fields as they were read: its header passes the tests of the reflectors' port (RFC 7880 section 7.2).
-/// Takes no memory.
+/// Allocates no memory.
 pub fn reflect_by(
     reflector: &Reflector,
     packet: &Control,
@@ -112,8 +112,8 @@ pub fn reflect_by(
 /// The answer to a packet on the reflectors' port, 7784, or the first of that port's tests that it fails: Short, Version,
 /// LengthMin, LengthOver, DetectMult, Multipoint, MyDiscr, YourUnknown, AuthUnexpected, NotDemand (RFC 7880 section 7.2,
 /// RFC 7881 section 6). YourUnknown comes where Your Discriminator is 0 or no reflector of the pool has it. The pool is in
-/// ascending order of discriminator, with none twice. A reflector answers whatever its own state is. Takes no memory and
-/// keeps none.
+/// ascending order of discriminator, with none twice. A reflector answers whatever its own state is. Allocates no memory
+/// and keeps none.
 pub fn reflect(pool: &[Reflector], arrival: &Arrival) -> Result<Datagram, Test>
     requires { Ascends pool.now }
     ensures { result ≡ reflecting.reflect pool.now arrival.now }

@@ -1,5 +1,6 @@
 -- Digits are ASCII, so they are text.
-use Rattle.bfd_script.proofs.FieldsCommon.{◌≡◌, ℕ, ◌<◌, true, List, [], ◌∷◌, arith, suc, zero, nat_tests, slice_index, is_ascii_digit, list_all, IsUtf8}
+use Rattle.bfd_script.proofs.FieldsCommon.{◌≡◌, ℕ, ◌<◌, true, List, [], ◌∷◌, arith, suc, zero, nat_tests, slice_index, is_ascii_digit}
+use Rattle.bfd_script.proofs.FieldsCommon.{list_all, IsUtf8}
 use Rattle.std.proofs.lemmas.Str.{IsUtf8-from_ascii}
 
 digits_at : (field : List ℕ) → list_all is_ascii_digit field ≡ true → (i : ℕ) → slice_index field i < 128

@@ -1,5 +1,7 @@
 -- Names that proofs of this crate cite, passed on from one place. Declares nothing.
-pub use Rattle.std.proofs.Common.{Bool, List, None, Option, Some, [], ap, append-nil, append_assoc, arith, cond, drop, false, get_or, length, length-append, nat_le, nat_lt, not, refl, rules, set, slice_index_or, subst, suc, sym, take, true, zero, ℕ, ◌*◌, ◌++◌, ◌+◌, ◌-◌, ◌<◌, ◌==◌, ◌||◌, ◌∙◌, ◌∷◌, ◌≡◌, ◌≤◌}
+pub use Rattle.std.proofs.Common.{Bool, List, None, Option, Some, [], ap, append-nil, append_assoc, arith, cond, drop, false, get_or}
+pub use Rattle.std.proofs.Common.{length, length-append, nat_le, nat_lt, not, refl, rules, set, slice_index_or, subst, suc, sym, take, true}
+pub use Rattle.std.proofs.Common.{zero, ℕ, ◌*◌, ◌++◌, ◌+◌, ◌-◌, ◌<◌, ◌==◌, ◌||◌, ◌∙◌, ◌∷◌, ◌≡◌, ◌≤◌}
 pub use Rattle.std.proofs.lemmas.Bool.{ltb-true, or_from, or_parts, or_right}
 pub use Rattle.std.proofs.lemmas.Bool.Decides.{nat_tests}
 pub use Rattle.std.proofs.lemmas.List.{length-drop, map-id, nil_from_length}
@@ -15,7 +17,9 @@ pub use Rattle.bfd_demux.specs.declared.row.RowKind.{RowKind}
 pub use Rattle.bfd_script.specs.Ranges.{AreKeys, AreNext, IsChain, IsKey, IsNext, IsReflector, IsRow}
 pub use Rattle.bfd_sbfd.specs.declared.reflecting.Reflector.{Reflector}
 pub use Rattle.bfd_script.specs.Reading.{is_full, is_named, is_taken, script_of, told_from}
-pub use Rattle.bfd_script.specs.Rows.{by_discr, by_number, changed, has_discr, has_number, has_place, has_reflector, has_selector, insert_by, inserted, keyed_more, keyed_with, keys_in, keys_of, one_more, pool_by_discr, pooled, reflector_discr}
+pub use Rattle.bfd_script.specs.Rows.{by_discr, by_number, changed, has_discr, has_number, has_place, has_reflector, has_selector}
+pub use Rattle.bfd_script.specs.Rows.{insert_by, inserted, keyed_more, keyed_with, keys_in, keys_of, one_more, pool_by_discr, pooled}
+pub use Rattle.bfd_script.specs.Rows.{reflector_discr}
 pub use Rattle.bfd_script.specs.Sound.{AreApart, AreConfigs, AreNamed, ArePool}
 pub use Rattle.bfd_script.specs.Tables.{AreRows, AreUpTo, IsIndexed, IsPool, IsReading, among}
 pub use Rattle.bfd_session.proofs.Tables.{IsElsewhere, no_fault_with, numbers_differ, same_turned}

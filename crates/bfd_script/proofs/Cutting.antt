@@ -1,5 +1,7 @@
 -- The four parts of an address, cut off one after another.
-use Rattle.bfd_script.proofs.FieldsCommon.{◌≡◌, ℕ, ◌+◌, ◌*◌, ◌==◌, cond, Bool, true, false, List, [], ◌∷◌, Result, Ok, Err, refl, arith, nat_tests, is_ascii_digit, list_all, onto_first, slice_split, number_in, dotted_of, octet_of, part_of, quad_of, ◌>>=◌, V4}
+use Rattle.bfd_script.proofs.FieldsCommon.{◌≡◌, ℕ, ◌+◌, ◌*◌, ◌==◌, cond, Bool, true, false, List, [], ◌∷◌, Result, Ok, Err, refl, arith}
+use Rattle.bfd_script.proofs.FieldsCommon.{nat_tests, is_ascii_digit, list_all, onto_first, slice_split, number_in, dotted_of, octet_of}
+use Rattle.bfd_script.proofs.FieldsCommon.{part_of, quad_of, ◌>>=◌, V4}
 use Rattle.bfd_script.specs.declared.fields.fault.LineFault.{LineFault}
 use Rattle.bfd_script.specs.declared.fields.fault.LineFault.TheVariants.{BadAddress}
 

@@ -1,5 +1,6 @@
 -- Digits that `parse` refuses write a number that is too large.
-use Rattle.bfd_script.proofs.FieldsCommon.{◌≡◌, ℕ, ◌+◌, ◌*◌, ◌<◌, ◌≤◌, ◌^◌, arith, suc, true, List, length, Result, Err, inl, inr, rules, is_ascii_digit, list_all, digits_value, ParsesUnsigned, cases_lt}
+use Rattle.bfd_script.proofs.FieldsCommon.{◌≡◌, ℕ, ◌+◌, ◌*◌, ◌<◌, ◌≤◌, ◌^◌, arith, suc, true, List, length, Result, Err, inl, inr, rules}
+use Rattle.bfd_script.proofs.FieldsCommon.{is_ascii_digit, list_all, digits_value, ParsesUnsigned, cases_lt}
 use Rattle.std.proofs.Math.Nat.{le-mul_of_pos_right, mul-le-mul_right, one-le-pow, pow-le-pow_right, pow-suc}
 use Rattle.std.proofs.lemmas.Result.{OkIff-at_err}
 use Rattle.std.proofs.lemmas.Str.Parse.{IsNumeralModel, numerals_by_value, parse_digits}
@@ -13,7 +14,8 @@ not_below {n} h = elim (cases_lt n (2 ^ 64)) [ inl low ↦ absurd (h low) | inr 
 
 pub too_large : {E : Type 0} (e : E) (field : List ℕ) (r : Result ℕ E) → r ≡ Err e → ParsesUnsigned 64 10 field r
     → list_all is_ascii_digit field ≡ true → 0 < length field → 2 ^ 64 ≤ digits_value 10 field
-too_large e field r refused parsed digits some = not_below (λ low. (OkIff-at_err r _ _ e (parse_digits own 64 field r parsed digits) refused) (some, low))
+too_large e field r refused parsed digits some = not_below
+    (λ low. (OkIff-at_err r _ _ e (parse_digits own 64 field r parsed digits) refused) (some, low))
 
 -- ---- room for the digits that are left
 

@@ -1,5 +1,6 @@
 -- Hexadecimal digits that are decoded into room of their own size.
-use Rattle.bfd_script.proofs.FieldsCommon.{◌≡◌, ℕ, ◌*◌, ◌≤◌, ◌==◌, false, List, ◌∷◌, length, take, Ok, refl, arith, nat_tests, codes, decode_sized, decoded, payload_of, bytes_eq, ◌>>=◌, decode_sized-twice}
+use Rattle.bfd_script.proofs.FieldsCommon.{◌≡◌, ℕ, ◌*◌, ◌≤◌, ◌==◌, false, List, ◌∷◌, length, take, Ok, refl, arith, nat_tests, codes}
+use Rattle.bfd_script.proofs.FieldsCommon.{decode_sized, decoded, payload_of, bytes_eq, ◌>>=◌, decode_sized-twice}
 use Rattle.std.proofs.Math.Bool.{and-false}
 
 no_dash : (field : List ℕ) → 2 ≤ length field → bytes_eq field (codes "-") ≡ false

@@ -1,5 +1,7 @@
 -- The table of a script has no fault.
-use Rattle.bfd_script.proofs.Common.{◌==◌, ◌<◌, ◌≤◌, ◌+◌, None, ◌≡◌, List, [], ◌∷◌, length, AllByRecursion, or_parts, Reflector, SessionConfig, discr_of, table_of, IsElsewhere, no_fault_with, build_fault, has_discr, IsReflector, AreApart, AreConfigs, ArePool}
+use Rattle.bfd_script.proofs.Common.{◌==◌, ◌<◌, ◌≤◌, ◌+◌, None, ◌≡◌, List, [], ◌∷◌, length, AllByRecursion, or_parts, Reflector}
+use Rattle.bfd_script.proofs.Common.{SessionConfig, discr_of, table_of, IsElsewhere, no_fault_with, build_fault, has_discr, IsReflector}
+use Rattle.bfd_script.proofs.Common.{AreApart, AreConfigs, ArePool}
 
 -- no reflector has a session's discriminator, told for the sessions
 
@@ -23,4 +25,5 @@ some_discrs (r ∷ pool) rows = (rows.0.discr, some_discrs pool rows.1)
 pub no_fault : (configs : List SessionConfig) (pool : List Reflector) → AreConfigs configs → ArePool pool → AreApart configs pool
     → length configs + length pool ≤ 65536 → build_fault (table_of configs pool) ≡ None
 no_fault configs pool sound climbs apart few =
-    no_fault_with configs pool sound.ascends sound.differs sound.fit climbs.ascends (some_discrs pool climbs.rows) (elsewhere configs pool apart) few
+    no_fault_with configs pool sound.ascends sound.differs sound.fit climbs.ascends (some_discrs pool climbs.rows)
+    (elsewhere configs pool apart) few

@@ -1,8 +1,12 @@
 -- Names that proofs of this crate cite, passed on from one place. Declares nothing.
-pub use Rattle.std.proofs.Common.{Bool, Err, List, None, Ok, Option, Result, Some, [], ap, arith, bit_and, bit_or, cond, drop, eqb, eqb-true, false, get_or, inl, inr, length, ltb, ltb-false, map, not, refl, replicate, rules, subst, suc, sym, take, true, unwrap_or, w8, zero, ℕ, ◌%◌, ◌&&◌, ◌*◌, ◌++◌, ◌+◌, ◌-◌, ◌/◌, ◌<◌, ◌==◌, ◌^◌, ◌||◌, ◌∙◌, ◌∷◌, ◌≡◌, ◌≤◌}
+pub use Rattle.std.proofs.Common.{Bool, Err, List, None, Ok, Option, Result, Some, [], ap, arith, bit_and, bit_or, cond, drop, eqb}
+pub use Rattle.std.proofs.Common.{eqb-true, false, get_or, inl, inr, length, ltb, ltb-false, map, not, refl, replicate, rules, subst, suc}
+pub use Rattle.std.proofs.Common.{sym, take, true, unwrap_or, w8, zero, ℕ, ◌%◌, ◌&&◌, ◌*◌, ◌++◌, ◌+◌, ◌-◌, ◌/◌, ◌<◌, ◌==◌, ◌^◌, ◌||◌, ◌∙◌}
+pub use Rattle.std.proofs.Common.{◌∷◌, ◌≡◌, ◌≤◌}
 pub use Rattle.std.proofs.lemmas.Bool.{and_parts, cases_eq, cases_lt, false_from_ne_true}
 pub use Rattle.std.proofs.lemmas.Bool.Decides.{nat_tests}
-pub use Rattle.std.proofs.lemmas.List.{append-nil, append_assoc, drop-drop, drop-map, drop-take, length-drop, length-map, length-take-le, take-append-drop}
+pub use Rattle.std.proofs.lemmas.List.{append-nil, append_assoc, drop-drop, drop-map, drop-take, length-drop, length-map, length-take-le}
+pub use Rattle.std.proofs.lemmas.List.{take-append-drop}
 pub use Rattle.std.proofs.lemmas.Simd.{bitmask_splat, leading_from_mask_l, length-zip2, mask_l-mod, trailing_mask_l}
 pub use Rattle.std.specs.Char.{digit_value, is_ascii_digit}
 pub use Rattle.std.specs.List.{before_first, list_all, onto_first, position_or_len, prefix_len, slice_split}

@@ -1,5 +1,7 @@
 -- The first line of a text ends at its first LF.
-use Rattle.bfd_script.proofs.FieldsCommon.{◌≡◌, ℕ, ◌+◌, ◌<◌, ◌==◌, not, cond, Bool, true, false, List, [], ◌∷◌, length, take, drop, refl, ap, ◌∙◌, arith, suc, subst, ◌≤◌, slice_index, prefix_len, false_from_ne_true, lines_of, onto_line, prefix_len_is, NoneBefore, Nowhere, Passes, take-length}
+use Rattle.bfd_script.proofs.FieldsCommon.{◌≡◌, ℕ, ◌+◌, ◌<◌, ◌==◌, not, cond, Bool, true, false, List, [], ◌∷◌, length, take, drop, refl}
+use Rattle.bfd_script.proofs.FieldsCommon.{ap, ◌∙◌, arith, suc, subst, ◌≤◌, slice_index, prefix_len, false_from_ne_true, lines_of}
+use Rattle.bfd_script.proofs.FieldsCommon.{onto_line, prefix_len_is, NoneBefore, Nowhere, Passes, take-length}
 use Rattle.std.proofs.Math.ListN.{drop_of_length-le}
 
 -- a byte before the first LF
@@ -32,7 +34,8 @@ abbrev is_end : ℕ → Bool
 is_end byte = byte == 10
 
 -- the first line ends at the first LF
-at_end : (text : List ℕ) {end : ℕ} → end ≤ length text → Nowhere (Passes is_end text) 0 end → (end < length text → is_end (slice_index text end) ≡ true)
+at_end : (text : List ℕ) {end : ℕ} → end ≤ length text → Nowhere (Passes is_end text) 0 end
+    → (end < length text → is_end (slice_index text end) ≡ true)
     → line_length text ≡ end
 at_end text {end} within none here = prefix_len_is in_line text end 0 within
     (λ k l. cc (false_from_ne_true (is_end (slice_index text k)) (none k (omega arith) l))) (λ l. cc (here l))

@@ -9,6 +9,7 @@ pub mod Giving
 pub mod Faults
 pub mod Rising
 pub mod Sizes
+pub mod Rooms
 mod FieldsCommon
 pub mod Ascii
 pub mod Decimal

@@ -1,5 +1,7 @@
 -- Spaces that are marked by bits.
-use Rattle.bfd_script.proofs.FieldsCommon.{◌≡◌, ℕ, zero, suc, ◌+◌, ◌-◌, ◌*◌, ◌/◌, ◌^◌, ◌<◌, ◌≤◌, ◌==◌, cond, not, Bool, true, false, List, [], ◌∷◌, length, map, take, drop, refl, sym, arith, drop-map, drop-take, length-take-le, trailing_mask_l, position_or_len, mask_l, count_trailing_zeros}
+use Rattle.bfd_script.proofs.FieldsCommon.{◌≡◌, ℕ, zero, suc, ◌+◌, ◌-◌, ◌*◌, ◌/◌, ◌^◌, ◌<◌, ◌≤◌, ◌==◌, cond, not, Bool, true, false, List}
+use Rattle.bfd_script.proofs.FieldsCommon.{[], ◌∷◌, length, map, take, drop, refl, sym, arith, drop-map, drop-take, length-take-le}
+use Rattle.bfd_script.proofs.FieldsCommon.{trailing_mask_l, position_or_len, mask_l, count_trailing_zeros}
 use Rattle.std.proofs.lemmas.Nat.{shr-shr}
 use Rattle.bfd_script.proofs.Cuts.{near}
 
@@ -36,7 +38,12 @@ pub later : (p : ℕ → Bool) (xs : List ℕ) {marked place : ℕ} → place < 
 later p xs {marked} {place} low =
     let k : ℕ = place + 1 in
     let sum : k + (marked - k) ≡ marked = omega arith in
-    cc (shr-shr (mask_l (map p (take marked xs))) place 1, behind k (map p (take marked xs)), drop-map p k (take marked xs), drop-take k (marked - k) xs)
+    cc (
+      shr-shr (mask_l (map p (take marked xs))) place 1,
+      behind k (map p (take marked xs)),
+      drop-map p k (take marked xs),
+      drop-take k (marked - k) xs,
+    )
 
 -- the first mark is at the first byte that passes
 pub placed : (byte : ℕ) (text : List ℕ) {marked marks : ℕ} → 0 < marks → marked ≤ length text → marked ≤ 64

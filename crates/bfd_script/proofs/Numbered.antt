@@ -1,17 +1,23 @@
 -- One more in an ascending list of things with numbers: the entries of a map, and what stays true of each.
-use Rattle.bfd_script.proofs.Common.{◌≡◌, ℕ, ◌+◌, ◌<◌, ◌==◌, Bool, true, false, ◌||◌, cond, List, [], ◌∷◌, length, Option, Some, refl, arith, nat_lt, nat_tests, is_some, list_any, AllByRecursion, values_of, lookup, is_at, insert_entry, nat_cmp, is_eq, match_ordering, or_parts, nat_level, by_number, has_number, insert_by, Less, Equal, Greater}
+use Rattle.bfd_script.proofs.Common.{◌≡◌, ℕ, ◌+◌, ◌<◌, ◌==◌, Bool, true, false, ◌||◌, cond, List, [], ◌∷◌, length, Option, Some, refl}
+use Rattle.bfd_script.proofs.Common.{arith, nat_lt, nat_tests, is_some, list_any, AllByRecursion, values_of, lookup, is_at, insert_entry}
+use Rattle.bfd_script.proofs.Common.{nat_cmp, is_eq, match_ordering, or_parts, nat_level, by_number, has_number, insert_by, Less, Equal}
+use Rattle.bfd_script.proofs.Common.{Greater}
 
 -- ---- the entries
 
-known_step : {X : Type 0} (at same has : Bool) (x : X) (o : Option X) → at ≡ same → is_some o ≡ has → is_some (cond at (Some x) o) ≡ (same || has)
+known_step : {X : Type 0} (at same has : Bool) (x : X) (o : Option X) → at ≡ same → is_some o ≡ has
+    → is_some (cond at (Some x) o) ≡ (same || has)
 known_step at true has x o e rest = rw e refl
 known_step at false has x o e rest = rw e rest
 
 -- a look-up by a number finds an entry where one has it
-known : {X : Type 0} (number : X → ℕ) (k : ℕ) (xs : List X) → is_some (lookup (is_at (nat_cmp k)) (by_number number xs)) ≡ has_number number k xs
+known : {X : Type 0} (number : X → ℕ) (k : ℕ) (xs : List X)
+    → is_some (lookup (is_at (nat_cmp k)) (by_number number xs)) ≡ has_number number k xs
 known number k [] = refl
 known number k (x ∷ xs) =
-    known_step (is_eq (nat_cmp k (number x))) (k == number x) (has_number number k xs) x (lookup (is_at (nat_cmp k)) (by_number number xs)) (nat_level k (number x)) (known number k xs)
+    known_step (is_eq (nat_cmp k (number x))) (k == number x) (has_number number k xs) x (lookup (is_at (nat_cmp k)) (by_number number xs))
+    (nat_level k (number x)) (known number k xs)
 
 pub known_among : {X : Type 0} (number : X → ℕ) (k : ℕ) {entries : List (ℕ × X)} → entries ≡ by_number number (values_of entries)
     → is_some (lookup (is_at (nat_cmp k)) entries) ≡ has_number number k (values_of entries)
@@ -19,7 +25,8 @@ known_among number k {entries} keyed = cc (known number k (values_of entries))
 
 entry_step : {X : Type 0} (number : X → ℕ) (less same : Bool) {has : Bool} (x y : X) (ys rest : List X) {es : List (ℕ × X)}
     → (same || has) ≡ false → (has ≡ false → es ≡ by_number number rest)
-    → match_ordering (cond less Less (cond same Equal Greater)) ((number x, x) ∷ (number y, y) ∷ by_number number ys) ((number y, x) ∷ by_number number ys) ((number y, y) ∷ es)
+    → match_ordering (cond less Less (cond same Equal Greater)) ((number x, x) ∷ (number y, y) ∷ by_number number ys)
+    ((number y, x) ∷ by_number number ys) ((number y, y) ∷ es)
     ≡ by_number number (cond less (x ∷ y ∷ ys) (y ∷ rest))
 entry_step number true same x y ys rest none next = refl
 entry_step number false true x y ys rest none next = cc
@@ -59,21 +66,25 @@ any_cond test true c d cs rest e = refl
 any_cond test false c d cs rest e = rw e (any_step false (test c) (test d) (list_any test cs))
 
 -- one of the longer list passes a test where the new one or an old one does
-pub any_inserted : {X : Type 0} (number : X → ℕ) (test : X → Bool) (x : X) (xs : List X) → list_any test (insert_by number x xs) ≡ (test x || list_any test xs)
+pub any_inserted : {X : Type 0} (number : X → ℕ) (test : X → Bool) (x : X) (xs : List X)
+    → list_any test (insert_by number x xs) ≡ (test x || list_any test xs)
 any_inserted number test x [] = refl
-any_inserted number test x (y ∷ ys) = any_cond test (nat_lt (number x) (number y)) x y ys (insert_by number x ys) (any_inserted number test x ys)
+any_inserted number test x (y ∷ ys) = any_cond test (nat_lt (number x) (number y)) x y ys (insert_by number x ys)
+    (any_inserted number test x ys)
 
 each_cond : {X : Type 0} (P : X → Type 0) (b : Bool) {c d : X} (ds rest : List X) → P c → P d → AllByRecursion P ds → AllByRecursion P rest
     → AllByRecursion P (cond b (c ∷ d ∷ ds) (d ∷ rest))
 each_cond P true ds rest new here all more = (new, (here, all))
 each_cond P false ds rest new here all more = (here, more)
 
-pub each_inserted : {X : Type 0} (number : X → ℕ) (P : X → Type 0) {x : X} (xs : List X) → P x → AllByRecursion P xs → AllByRecursion P (insert_by number x xs)
+pub each_inserted : {X : Type 0} (number : X → ℕ) (P : X → Type 0) {x : X} (xs : List X) → P x → AllByRecursion P xs
+    → AllByRecursion P (insert_by number x xs)
 each_inserted number P [] new all = (new, tt)
 each_inserted number P {x} (y ∷ ys) new all =
     each_cond P (nat_lt (number x) (number y)) ys (insert_by number x ys) new all.0 all.1 (each_inserted number P ys new all.1)
 
-length_cond : {X : Type 0} (b : Bool) (c d : X) (ds rest : List X) → length rest ≡ 1 + length ds → length (cond b (c ∷ d ∷ ds) (d ∷ rest)) ≡ 1 + length (d ∷ ds)
+length_cond : {X : Type 0} (b : Bool) (c d : X) (ds rest : List X) → length rest ≡ 1 + length ds
+    → length (cond b (c ∷ d ∷ ds) (d ∷ rest)) ≡ 1 + length (d ∷ ds)
 length_cond true c d ds rest e = omega arith
 length_cond false c d ds rest e = omega arith
 

@@ -1,5 +1,8 @@
 -- One more reflector in a pool, and a pool beside a table of sessions.
-use Rattle.bfd_script.proofs.Common.{◌≡◌, ℕ, ◌<◌, ◌==◌, Bool, true, false, ◌||◌, cond, List, [], ◌∷◌, refl, ap, ◌∙◌, arith, nat_lt, nat_tests, is_some, values_of, lookup, is_at, insert_entry, nat_cmp, or_parts, or_from, ltb-true, Reflector, SessionConfig, discr_of, has_discr, has_reflector, inserted, reflector_discr, pool_by_discr, pooled, IsReflector, AreApart, ArePool, IsPool}
+use Rattle.bfd_script.proofs.Common.{◌≡◌, ℕ, ◌<◌, ◌==◌, Bool, true, false, ◌||◌, cond, List, [], ◌∷◌, refl, ap, ◌∙◌, arith, nat_lt}
+use Rattle.bfd_script.proofs.Common.{nat_tests, is_some, values_of, lookup, is_at, insert_entry, nat_cmp, or_parts, or_from, ltb-true}
+use Rattle.bfd_script.proofs.Common.{Reflector, SessionConfig, discr_of, has_discr, has_reflector, inserted, reflector_discr, pool_by_discr}
+use Rattle.bfd_script.proofs.Common.{pooled, IsReflector, AreApart, ArePool, IsPool}
 use Rattle.bfd_sbfd.specs.Reflect.{Ascends}
 use Rattle.bfd_script.proofs.Elements.{each_to}
 use Rattle.bfd_script.proofs.Numbered.{any_inserted, each_inserted, entries_more, is_above, known_among}
@@ -22,11 +25,14 @@ ascends_cond false false r q pool l s none all more =
 
 ascends_pooled : (r : Reflector) (pool : List Reflector) → has_reflector r.discr pool ≡ false → Ascends pool → Ascends (pooled r pool)
 ascends_pooled r [] none all = (tt, tt)
-ascends_pooled r (q ∷ pool) none all = ascends_cond (nat_lt r.discr q.discr) _ r q pool refl refl none all (λ h. ascends_pooled r pool h all.1)
+ascends_pooled r (q ∷ pool) none all = ascends_cond (nat_lt r.discr q.discr) _ r q pool refl refl none all
+    (λ h. ascends_pooled r pool h all.1)
 
 -- the reflectors of the longer pool
-pub rows_pooled : (r : Reflector) {pool : List Reflector} {entries more : List (ℕ × Reflector)} → entries ≡ pool_by_discr (values_of entries)
-    → values_of entries ≡ pool → has_reflector r.discr pool ≡ false → more ≡ insert_entry nat_cmp entries r.discr r → values_of more ≡ pooled r pool
+pub rows_pooled : (r : Reflector) {pool : List Reflector} {entries more : List (ℕ × Reflector)}
+    → entries ≡ pool_by_discr (values_of entries)
+    → values_of entries ≡ pool → has_reflector r.discr pool ≡ false → more ≡ insert_entry nat_cmp entries r.discr r
+    → values_of more ≡ pooled r pool
 rows_pooled r keyed view none e = cc ((entries_more reflector_discr r keyed (ap (has_reflector r.discr) view ∙ none) e).1)
 
 -- the whole pool
@@ -47,14 +53,17 @@ turned_apart : (a b : ℕ) → (a == b) ≡ false → (b == a) ≡ false
 turned_apart a b h = grind (arith, nat_tests)
 
 -- one more session with a discriminator that no reflector has
-pub apart_inserted : (c : SessionConfig) (cs : List SessionConfig) (pool : List Reflector) → has_reflector (discr_of c) pool ≡ false → AreApart cs pool → AreApart (inserted c cs) pool
+pub apart_inserted : (c : SessionConfig) (cs : List SessionConfig) (pool : List Reflector) → has_reflector (discr_of c) pool ≡ false
+    → AreApart cs pool → AreApart (inserted c cs) pool
 apart_inserted c cs [] none apart = tt
 apart_inserted c cs (r ∷ pool) none apart =
     let e = or_parts (discr_of c == r.discr) (has_reflector (discr_of c) pool) none in (
-      any_inserted discr_of (λ d. r.discr == discr_of d) c cs ∙ or_from (r.discr == discr_of c) (has_discr r.discr cs) (turned_apart (discr_of c) r.discr e.0) apart.0,
+      any_inserted discr_of (λ d. r.discr == discr_of d) c cs
+          ∙ or_from (r.discr == discr_of c) (has_discr r.discr cs) (turned_apart (discr_of c) r.discr e.0) apart.0,
       apart_inserted c cs pool e.1 apart.1,
     )
 
 -- one more reflector with a discriminator that no session has
-pub apart_pooled : (cs : List SessionConfig) (r : Reflector) (pool : List Reflector) → has_discr r.discr cs ≡ false → AreApart cs pool → AreApart cs (pooled r pool)
+pub apart_pooled : (cs : List SessionConfig) (r : Reflector) (pool : List Reflector) → has_discr r.discr cs ≡ false → AreApart cs pool
+    → AreApart cs (pooled r pool)
 apart_pooled cs r pool none apart = each_inserted reflector_discr (λ q. has_discr q.discr cs ≡ false) pool none apart

@@ -1,5 +1,6 @@
 -- Each packet that a report counts has text of its own.
-use Rattle.bfd_script.proofs.Common.{◌≤◌, ◌++◌, ℕ, List, [], ◌∷◌, length, arith, length-append, sum_by, flat_map, packets_sent_by, item_line}
+use Rattle.bfd_script.proofs.Common.{◌≤◌, ◌++◌, ℕ, List, [], ◌∷◌, length, arith, length-append, sum_by, flat_map, packets_sent_by}
+use Rattle.bfd_script.proofs.Common.{item_line}
 use Rattle.std.specs.Fmt.{decimal}
 use Rattle.std.proofs.lemmas.List.Sums.{sum_by-cons}
 use Rattle.bfd_rules.specs.declared.outputs.Out.{Out}
@@ -18,4 +19,10 @@ item_some n (Sent discr datagram) = some_after (decimal n) _ 32
 pub sent_short : (n : ℕ) (os : List Out) → sum_by packets_sent_by os ≤ length (flat_map (item_line n) os)
 sent_short n [] = omega arith
 sent_short n (o ∷ os) =
-    omega (arith, sum_by-cons packets_sent_by o os, item_some n o, sent_short n os, length-append (item_line n o) (flat_map (item_line n) os))
+    omega (
+      arith,
+      sum_by-cons packets_sent_by o os,
+      item_some n o,
+      sent_short n os,
+      length-append (item_line n o) (flat_map (item_line n) os),
+    )

@@ -2,7 +2,9 @@
 use Rattle.std.specs.Prelude.{ℕ, List, ◌∷◌, ◌++◌, codes}
 use Rattle.std.specs.Fmt.{decimal}
 use Rattle.bfd_script.specs.declared.fields.fault.LineFault.{LineFault}
-use Rattle.bfd_script.specs.declared.fields.fault.LineFault.TheVariants.{NotAscii, TooLong, UnknownWord, FieldCount, BadNumber, OutOfRange, BadHex, BadAddress, SameDiscr, SameAddresses, NoSuchSession, Order, MissingEnd, TooMany, SameKey}
+use Rattle.bfd_script.specs.declared.fields.fault.LineFault.TheVariants.{NotAscii, TooLong, UnknownWord, FieldCount, BadNumber, OutOfRange}
+use Rattle.bfd_script.specs.declared.fields.fault.LineFault.TheVariants.{BadHex, BadAddress, SameDiscr, SameAddresses, NoSuchSession, Order}
+use Rattle.bfd_script.specs.declared.fields.fault.LineFault.TheVariants.{MissingEnd, TooMany, SameKey}
 use Rattle.bfd_script.specs.declared.fields.fault.BadLine.{BadLine}
 
 -- the name of a fault

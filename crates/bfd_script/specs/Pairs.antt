@@ -1,5 +1,6 @@
 -- The table line `p2p DISCR single|multi IFACE LOCAL REMOTE active|passive TX RX MULT ECHO SEED`.
-use Rattle.std.specs.Prelude.{◌≤◌, ◌<◌, ◌^◌, ℕ, ◌==◌, Bool, true, false, None, List, [], ◌∷◌, length, codes, IsTrue, Result, Ok, Err, if◌then◌else◌}
+use Rattle.std.specs.Prelude.{◌≤◌, ◌<◌, ◌^◌, ℕ, ◌==◌, Bool, true, false, None, List, [], ◌∷◌, length, codes, IsTrue, Result, Ok, Err}
+use Rattle.std.specs.Prelude.{if◌then◌else◌}
 use Rattle.std.specs.Str.{bytes_eq}
 use Rattle.bfd_rules.specs.Sound.{is_echo_interval}
 use Rattle.bfd_rules.specs.declared.config.Role.{Role}

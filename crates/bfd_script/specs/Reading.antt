@@ -1,5 +1,6 @@
 -- A whole text: the script that it spells, or its first faulty line with that line's first fault.
-use Rattle.std.specs.Prelude.{ℕ, ◌+◌, ◌++◌, ◌||◌, Bool, true, not, List, [], ◌∷◌, length, nat_le, Option, Some, None, Result, Ok, Err, if◌then◌else◌}
+use Rattle.std.specs.Prelude.{ℕ, ◌+◌, ◌++◌, ◌||◌, Bool, true, not, List, [], ◌∷◌, length, nat_le, Option, Some, None, Result, Ok, Err}
+use Rattle.std.specs.Prelude.{if◌then◌else◌}
 use Rattle.bfd_script.specs.declared.fields.fault.LineFault.{LineFault}
 use Rattle.bfd_script.specs.declared.fields.fault.LineFault.TheVariants.{SameDiscr, SameAddresses, NoSuchSession, MissingEnd, TooMany}
 use Rattle.bfd_script.specs.declared.fields.fault.BadLine.{BadLine}

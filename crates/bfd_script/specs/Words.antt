@@ -2,7 +2,8 @@
 use Rattle.std.specs.Prelude.{ℕ, Bool, true, false, not, ◌&&◌, List, Option, Some, None, codes, if◌then◌else◌}
 use Rattle.std.specs.Str.{bytes_eq}
 use Rattle.bfd_script.specs.declared.line.words.Word.{Word}
-use Rattle.bfd_script.specs.declared.line.words.Word.TheVariants.{Bfd, P2p, Auth, Key, Sbfd, Reflector, Head, Tail, Run, Rx, Tick, Cmd, Show, End}
+use Rattle.bfd_script.specs.declared.line.words.Word.TheVariants.{Bfd, P2p, Auth, Key, Sbfd, Reflector, Head, Tail, Run, Rx, Tick, Cmd}
+use Rattle.bfd_script.specs.declared.line.words.Word.TheVariants.{Show, End}
 use Rattle.bfd_script.specs.declared.line.words.Place.{Place}
 use Rattle.bfd_script.specs.declared.line.words.Version.{Version as Edition}
 use Rattle.bfd_script.specs.declared.line.words.Version.TheVariants.{One, Two}

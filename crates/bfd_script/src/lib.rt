@@ -7,11 +7,11 @@
 //! and no two sessions have the same selecting addresses. [`lines`] appends the report lines of one event, which `specs/Report.antt`
 //! defines.
 //!
-//! Layers, lowest first: [`fields`] (lines, and the fields that they are cut into), [`line`] (what one line says), `places`, `rows`, `table`
-//! and `pool` (the sessions and the reflectors so far), `state` (what is kept from line to line), `reading` (the whole text); beside them
-//! `report`. The one spelling of a script is for `bfd_serve`.
+//! Layers, lowest first: [`fields`] (lines, and the fields that they are cut into), [`line`] (what one line says), `places`, `rows`,
+//! `table` and `pool` (the sessions and the reflectors so far), `state` (what is kept from line to line), `reading` (the whole text);
+//! alongside them `report`. The one spelling of a script is for `bfd_serve`.
 //!
-//! It stands on `bfd_session` and what that stands on, and on `arrayvec`, `byteorder`, `hex`, `itoa` and `memchr`.
+//! It stands on `bfd_session` and what that stands on, and on `byteorder`, `hex`, `itoa` and `memchr`.
 #![tactic(auto)]
 
 pub mod fields;

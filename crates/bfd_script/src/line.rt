@@ -19,6 +19,7 @@ mod verbs;
 mod words;
 
 pub use entries::{Entry, Line, read_values, rx_entry};
+pub(crate) use pairs::read_pair;
 pub use secrets::key_fault;
 pub use verbs::Verb;
 pub use words::{Place, Version, Word, word_named};

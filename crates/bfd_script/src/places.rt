@@ -1,4 +1,4 @@
-// The selecting addresses of the sessions so far.
+//! The selecting addresses of the sessions so far.
 ghost use Rattle.std.specs.Prelude.{◌≡◌, ◌||◌, [], IfOk, OnOk, length, true};
 ghost use Rattle.std.specs.BTreeSet.{contains};
 ghost use Rattle.bfd_demux.specs.Rows.{has_addresses, same_selector};
@@ -20,7 +20,7 @@ const LEAST: RowKind = RowKind::Single {
 };
 
 /// The selecting addresses of sessions. Sessions mostly come in the order of their addresses: those that did are kept as they came,
-/// none above `greatest`, so that one comparison tells that the next is new. One that comes out of order puts them into a set.
+/// none above `greatest`, so that one comparison shows that the next is new. One that comes out of order puts them into a set.
 #[derive(Drop)]
 pub(crate) struct Places {
     rising: Vec<RowKind>,
@@ -54,7 +54,7 @@ fn is_among(kinds: &[RowKind], kind: RowKind) -> bool
     false
 }
 
-/// Whether the set has this kind. One above all of the set's is new, as one comparison tells.
+/// Whether the set has this kind. One above all of the set's is new, as one comparison shows.
 fn is_in(places: &BTreeSet<RowKind>, kind: RowKind) -> bool
     ensures { result ≡ contains (⟦<RowKind as Ord>⟧.cmp) places.now kind }
 {
@@ -91,7 +91,7 @@ impl Places {
         }
     }
 
-    /// Whether these addresses are there.
+    /// Whether these addresses are present.
     pub(crate) fn has(&self, kind: RowKind) -> bool
         ensures { result ≡ among self.now kind }
     {

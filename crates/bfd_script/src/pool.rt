@@ -1,4 +1,4 @@
-// The reflectors of a table: unique by discriminator.
+//! The reflectors of a table: unique by discriminator.
 ghost use Rattle.std.specs.Prelude.{◌≡◌, [], false, length, IfOk};
 ghost use Rattle.bfd_script.specs.Rows.{has_reflector, pooled};
 ghost use Rattle.bfd_script.specs.Ranges.{IsReflector};

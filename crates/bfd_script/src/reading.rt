@@ -1,19 +1,20 @@
-// The whole text.
+//! The whole text.
 ghost use Rattle.std.specs.Prelude.{IfOk, map};
-ghost use Rattle.bfd_script.specs.Entries.{rx_entry, valued, worded};
+ghost use Rattle.bfd_script.specs.Entries.{row_entry, rx_entry, valued, worded};
 ghost use Rattle.bfd_script.specs.Gives.{◌>>=◌ as on_to, Gives, GivesScript};
+ghost use Rattle.bfd_script.specs.Pairs.{p2p_row};
 ghost use Rattle.bfd_script.specs.Reading.{admitted, script_of, line_read};
 ghost use Rattle.bfd_script.specs.Sound.{IsScript};
 
 use crate::fields::{
     BadLine, LineFault, ReadFault, ScriptFault, first_line, line_text, split_fields,
 };
-use crate::line::{Word, read_values, rx_entry, word_named};
+use crate::line::{Word, read_pair, read_values, rx_entry, word_named};
 use crate::script::Script;
 use crate::state::Reading;
 use std::alloc::Global;
 
-/// Takes in one more `rx` line of these values, which goes to the others as it is read.
+/// Accepts one more `rx` line of these values, which goes to the others as it is read.
 fn take_packet(alloc: Global, reading: &mut Reading, values: &[&[u8]]) -> Result<(), ReadFault>
     ensures { Gives (λ _. reading.new)
         result (on_to (rx_entry (map (λ value. value.now) values.now)) (λ entry. admitted entry reading.old)) }
@@ -22,7 +23,17 @@ fn take_packet(alloc: Global, reading: &mut Reading, values: &[&[u8]]) -> Result
     reading.push(line)
 }
 
-/// Takes in one more line of these values, another than `rx`.
+/// Accepts one more `p2p` line of these values. Most rows of a table are such lines, so the session goes to its place as it is read.
+#[inline(never)]
+fn take_pair(alloc: Global, reading: &mut Reading, values: &[&[u8]]) -> Result<(), ReadFault>
+    ensures { Gives (λ _. reading.new)
+        result (on_to (row_entry (p2p_row (map (λ value. value.now) values.now))) (λ entry. admitted entry reading.old)) }
+{
+    let config = read_pair(values)?;
+    reading.add_row(alloc, config)
+}
+
+/// Accepts one more line of these values, another than `rx` and `p2p`.
 #[inline(never)]
 fn take_entry(
     alloc: Global,
@@ -38,7 +49,7 @@ fn take_entry(
     reading.accept(alloc, entry)
 }
 
-/// Takes in one more line of these values. Most lines are `rx` lines, so these have a way of their own.
+/// Accepts one more line of these values. Most lines are `rx` and `p2p` lines, so these have ways of their own.
 fn take_values(
     alloc: Global,
     reading: &mut Reading,
@@ -51,11 +62,12 @@ fn take_values(
 {
     match word {
         Word::Rx => take_packet(alloc, reading, values),
+        Word::P2p => take_pair(alloc, reading, values),
         other => take_entry(alloc, reading, other, values),
     }
 }
 
-/// Takes in one more line of these fields.
+/// Accepts one more line of these fields.
 fn take_fields(
     alloc: Global,
     live: bool,
@@ -78,7 +90,7 @@ fn take_fields(
     take_values(alloc, reading, word, values)
 }
 
-/// Takes in one more line. `fields` is room for its fields.
+/// Accepts one more line. `fields` is room for its fields.
 fn read_step<'a>(
     alloc: Global,
     live: bool,

@@ -1,4 +1,4 @@
-// Sessions by discriminator.
+//! Sessions by discriminator.
 ghost use Rattle.std.specs.Prelude.{◌≡◌, ◌++◌, ◌<◌, [], None, Option, Some, IfOk, IfSome, IsTrue, OnOk, false, is_some, length};
 ghost use Rattle.std.specs.BTreeMap.{insert_entry, is_at};
 ghost use Rattle.std.specs.List.{AllByRecursion};

@@ -1,4 +1,4 @@
-// A script.
+//! A script.
 use crate::line::Line;
 use bfd_sbfd::Reflector;
 use bfd_session::SessionConfig;

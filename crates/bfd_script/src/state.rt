@@ -1,4 +1,4 @@
-// What is kept from line to line.
+//! What is kept from line to line.
 ghost use Rattle.std.specs.Prelude.{◌≡◌, IfOk};
 ghost use Rattle.bfd_session.specs.Step.{IsFit};
 ghost use Rattle.bfd_script.specs.Gives.{Gives, GivesScript};
@@ -109,9 +109,9 @@ impl Reading {
         self.table.len() + self.pool.len() >= MOST_ROWS
     }
 
-    /// One more session: refused where its discriminator or its selecting addresses are there, and where there are 65,536
+    /// One more session: refused where its discriminator or its selecting addresses are present, and where there are 65,536
     /// rows. Nothing else is moved.
-    fn add_row(&mut self, alloc: Global, config: SessionConfig) -> Result<(), ReadFault>
+    pub(crate) fn add_row(&mut self, alloc: Global, config: SessionConfig) -> Result<(), ReadFault>
         requires fit { IsFit config }
         requires row { IsRow config }
         ensures { Gives (λ _. self.new) result (with_config config self.old) }
@@ -134,7 +134,7 @@ impl Reading {
         }
     }
 
-    /// One more reflector: refused where its discriminator is there, and where there are 65,536 rows.
+    /// One more reflector: refused where its discriminator is present, and where there are 65,536 rows.
     fn with_reflector(self, reflector: Reflector) -> Result<Reading, ReadFault>
         requires { IsReflector reflector }
         ensures { Gives (λ s. s) result (with_reflector reflector self) }
@@ -177,7 +177,7 @@ impl Reading {
         Ok(Reading { table, ..self })
     }
 
-    /// One more event line: refused where the session that it names isn't there, and where there are 200,000.
+    /// One more event line: refused where the session that it names isn't present, and where there are 200,000.
     pub(crate) fn push(&mut self, line: Line) -> Result<(), ReadFault>
         requires { IsEvent line }
         ensures { Gives (λ _. self.new) result (with_event line self.old) }
@@ -188,7 +188,8 @@ impl Reading {
         if self.events.len() >= MOST_EVENTS {
             return Err(ReadFault::Fault(LineFault::TooMany));
         }
-        self.events.push(line)?;
+        self.events.reserve(1)?;
+        self.events.push_reserved(line);
         Ok(())
     }
 
@@ -217,7 +218,7 @@ impl Reading {
         }
     }
 
-    /// Takes in a line that says this, or tells the fault that it has because of the lines before it. An event and a session, which
+    /// Accepts a line that says this, or answers the fault that it has because of the lines before it. An event and a session, which
     /// most lines are, go to their places without the state being moved.
     pub(crate) fn accept(&mut self, alloc: Global, entry: Entry) -> Result<(), ReadFault>
         requires { IsEntry entry }

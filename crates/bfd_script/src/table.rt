@@ -1,4 +1,4 @@
-// The table of sessions: unique by discriminator and by selecting addresses.
+//! The table of sessions: unique by discriminator and by selecting addresses.
 ghost use Rattle.std.specs.Prelude.{◌≡◌, ◌||◌, ◌<◌, [], false, length, IfOk, None, OnErr, OnOk, Some, is_some};
 ghost use Rattle.bfd_demux.specs.Rows.{same_selector};
 ghost use Rattle.bfd_demux.specs.declared.row.RowKind.{RowKind as Kind};
@@ -116,7 +116,7 @@ impl Table {
         self.rows.has(discr)
     }
 
-    /// Whether the session of this discriminator is there and may have keys.
+    /// Whether the session of this discriminator is present and may have keys.
     #[tactic(auto, using(crate::proofs::Giving::found_at))]
     pub(crate) fn has_pair(&self, discr: u32) -> bool
         ensures { result ≡ has_pair discr self.now }

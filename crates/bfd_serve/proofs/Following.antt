@@ -34,5 +34,6 @@ ready done [] before up apart = tt
 ready done (c ∷ cs) before up apart = (
   record { above = each_to done (before_above c cs) before; apart = each_to done (before_apart c cs) before },
   ready (done ++ c ∷ []) cs
-      (each_more (λ d. AllBefore d cs) done (c ∷ []) (each_to done (before_tail c cs) before) (record { below = up.0; apart = apart.0 }, tt)) up.1 apart.1,
+      (each_more (λ d. AllBefore d cs) done (c ∷ []) (each_to done (before_tail c cs) before)
+      (record { below = up.0; apart = apart.0 }, tt)) up.1 apart.1,
 )

@@ -1,5 +1,9 @@
 -- Table rows and events, written and read again.
-use Rattle.bfd_serve.proofs.SpellingCommon.{◌≡◌, ℕ, nat_le, ◌<◌, ◌≤◌, ◌^◌, ◌-◌, Bool, true, false, cond, ◌&&◌, List, [], ◌∷◌, length, Some, Ok, Err, refl, sym, ap, ◌∙◌, arith, nat_tests, codes, decimal, AllByRecursion, leb-true, and_parts, OutOfRange, Version, cmd_entry, entry_in_line, numbered_of, plain_of, received_of, shown_of, number_in, IsAsked, IsEvent, IsKey, IsReceived, hex_field, spaced, address_field, auth_fields, event_fields, is_new_line, key_fields, port_field, verb_fields}
+use Rattle.bfd_serve.proofs.SpellingCommon.{◌≡◌, ℕ, nat_le, ◌<◌, ◌≤◌, ◌^◌, ◌-◌, Bool, true, false, cond, ◌&&◌, List, [], ◌∷◌, length, Some}
+use Rattle.bfd_serve.proofs.SpellingCommon.{Ok, Err, refl, sym, ap, ◌∙◌, arith, nat_tests, codes, decimal, AllByRecursion, leb-true}
+use Rattle.bfd_serve.proofs.SpellingCommon.{and_parts, OutOfRange, Version, cmd_entry, entry_in_line, numbered_of, plain_of, received_of}
+use Rattle.bfd_serve.proofs.SpellingCommon.{shown_of, number_in, IsAsked, IsEvent, IsKey, IsReceived, hex_field, spaced, address_field}
+use Rattle.bfd_serve.proofs.SpellingCommon.{auth_fields, event_fields, is_new_line, key_fields, port_field, verb_fields}
 use Rattle.bfd_num.specs.Numbers.{moment_bound, greatest_tick}
 use Rattle.hex.specs.Hex.{IsBytes}
 use Rattle.bfd_packet.specs.KeyChain.{digest_size, fits_kind, type_number}
@@ -75,13 +79,15 @@ most_room kind = omega arith
 
 secret_few : (kind : AuthType) (secret : List ℕ) → fits_kind kind secret ≡ true → length secret ≤ 20
 secret_few kind secret h =
-    let most = leb-true (length secret) (digest_size kind) (and_parts (nat_le 1 (length secret)) (nat_le (length secret) (digest_size kind)) h).1 in
+    let most = leb-true (length secret) (digest_size kind)
+    (and_parts (nat_le 1 (length secret)) (nat_le (length secret) (digest_size kind)) h).1 in
     let room = most_room kind in omega arith
 
 fit_step : (fits : Bool) (bytes : List ℕ) → fits ≡ true → cond fits (Ok bytes) (Err OutOfRange) ≡ Ok bytes
 fit_step fits bytes h = rw h refl
 
-secret_again : (kind : AuthType) (secret : List ℕ) → IsBytes secret → fits_kind kind secret ≡ true → secret_of kind (hex_field secret) ≡ Ok secret
+secret_again : (kind : AuthType) (secret : List ℕ) → IsBytes secret → fits_kind kind secret ≡ true
+    → secret_of kind (hex_field secret) ≡ Ok secret
 secret_again kind secret h fits = cc (bytes_again secret h, fit_step (fits_kind kind secret) secret fits)
 
 chain_again : (kind : AuthType) (key : Key) → IsKey key → fits_kind kind key.secret ≡ true
@@ -113,7 +119,8 @@ auth_short {d} kind {key} below h few =
     let l4 = hex_short key.secret (omega arith) in
     omega arith
 
-pub auth_again : (version : Version) (live : Bool) (d : ℕ) (kind : AuthType) (key : Key) → 0 < d → d < 2 ^ 32 → IsKey key → fits_kind kind key.secret ≡ true
+pub auth_again : (version : Version) (live : Bool) (d : ℕ) (kind : AuthType) (key : Key) → 0 < d → d < 2 ^ 32 → IsKey key
+    → fits_kind kind key.secret ≡ true
     → entry_in_line version places.Table live (spaced (auth_fields d kind key) []) ≡ Ok (entries.Auth d (one_key kind key.id key.secret))
 auth_again version live d kind key some below h fits = cc (
   entry_again version places.Table live (codes "auth") (decimal d ∷ decimal (type_number kind) ∷ decimal key.id ∷ hex_field key.secret ∷ [])
@@ -144,7 +151,8 @@ widest : (kind : AuthType) (secret : List ℕ) → fits_kind kind secret ≡ tru
 widest kind secret fits = room_step (nat_le 1 (length secret)) (secret_few kind secret fits)
     ∙ (and_parts (nat_le 1 (length secret)) (nat_le (length secret) (digest_size kind)) fits).0
 
-key_read : (kind : AuthType) (key : Key) → IsKey key → fits_kind kind key.secret ≡ true → key_of (decimal key.id) (hex_field key.secret) ≡ Ok key
+key_read : (kind : AuthType) (key : Key) → IsKey key → fits_kind kind key.secret ≡ true
+    → key_of (decimal key.id) (hex_field key.secret) ≡ Ok key
 unfolding key_of
 key_read kind key h fits = rw (
   number_again 0 255 key.id (omega arith) (let k = h.id in omega arith) (let k = h.id in omega arith),
@@ -173,7 +181,8 @@ arrival_again {a} h = rw (
 ) (ap (λ s. Ok (record a { sport = s })) (sym h.sport))
 
 received_again : {m : ℕ} {a : Arrival} → IsReceived m a
-    → received_of (decimal m) (port_field a.port) (decimal a.iface) (address_field a.src ∷ address_field a.dst ∷ decimal a.ttl ∷ hex_field a.payload ∷ [])
+    → received_of (decimal m) (port_field a.port) (decimal a.iface)
+    (address_field a.src ∷ address_field a.dst ∷ decimal a.ttl ∷ hex_field a.payload ∷ [])
     ≡ Ok (entries.Event (events.Rx m a))
 unfolding received_of
 received_again {m} {a} h = rw (
@@ -192,7 +201,13 @@ rx_is_fields {m} {a} h = (
       port_is_field a.port,
       (
         number_field a.iface (let k = h.iface in omega arith),
-        (address_is_field a.src h.src, (address_is_field a.dst h.dst, (number_field a.ttl (let k = h.ttl in omega arith), (hex_is_field a.payload h.bytes, tt)))),
+        (
+          address_is_field a.src h.src,
+          (
+            address_is_field a.dst h.dst,
+            (number_field a.ttl (let k = h.ttl in omega arith), (hex_is_field a.payload h.bytes, tt)),
+          ),
+        ),
       ),
     ),
   ),
@@ -250,17 +265,24 @@ plain_again : (version : Version) {m d : ℕ} (field : List ℕ) (verb : Verb) �
 unfolding plain_of
 plain_again version field verb h e = rw (moment_again h, asked_again h, e) refl
 
-numbered_again : (version : Version) {m d n : ℕ} (field : List ℕ) (verb : Verb) → IsAsked m d → n < 2 ^ 64 → verb_of version field ≡ Some verb
+numbered_again : (version : Version) {m d n : ℕ} (field : List ℕ) (verb : Verb) → IsAsked m d → n < 2 ^ 64
+    → verb_of version field ≡ Some verb
     → numbered_of version (decimal m) (decimal d) field (decimal n) ≡ Ok (entries.Event (events.Cmd m d (command verb n)))
 unfolding numbered_of
-numbered_again version {n} field verb h below e = rw (moment_again h, asked_again h, e, number_again 0 (2 ^ 64 - 1) n (omega arith) (omega arith) below) refl
+numbered_again version {n} field verb h below e = rw (
+  moment_again h,
+  asked_again h,
+  e,
+  number_again 0 (2 ^ 64 - 1) n (omega arith) (omega arith) below,
+) refl
 
 -- the key command is of version 2
 key_verb : (version : Version) → Speaks version true → verb_of version (codes "key") ≡ Some verbs.Key
 key_verb One h = cc
 key_verb Two h = refl
 
-command_again : (version : Version) {m d : ℕ} (cmd : Cmd) → IsAsked m d → command_number cmd < 2 ^ 64 → Speaks version (is_new_line (events.Cmd m d cmd))
+command_again : (version : Version) {m d : ℕ} (cmd : Cmd) → IsAsked m d → command_number cmd < 2 ^ 64
+    → Speaks version (is_new_line (events.Cmd m d cmd))
     → cmd_entry version (decimal m ∷ decimal d ∷ verb_fields cmd) ≡ Ok (entries.Event (events.Cmd m d cmd))
 command_again version commands.Disable h n new = plain_again version (codes "disable") verbs.Disable h refl
 command_again version commands.Enable h n new = plain_again version (codes "enable") verbs.Enable h refl
@@ -271,9 +293,11 @@ command_again version (commands.Rx n) h below new = numbered_again version (code
 command_again version (commands.Mult n) h below new = numbered_again version (codes "mult") verbs.Mult h below refl
 command_again version (commands.Demand n) h below new = numbered_again version (codes "demand") verbs.Demand h below refl
 command_again version (commands.EchoEvery n) h below new = numbered_again version (codes "echo") verbs.Echo h below refl
-command_again version (commands.Key n) h below new = cc (key_verb version new, numbered_again version (codes "key") _ h below (key_verb version new))
+command_again version (commands.Key n) h below new =
+    cc (key_verb version new, numbered_again version (codes "key") _ h below (key_verb version new))
 
-cmd_is_fields : {m d : ℕ} (cmd : Cmd) → IsAsked m d → command_number cmd < 2 ^ 64 → AllByRecursion IsField (event_fields (events.Cmd m d cmd))
+cmd_is_fields : {m d : ℕ} (cmd : Cmd) → IsAsked m d → command_number cmd < 2 ^ 64
+    → AllByRecursion IsField (event_fields (events.Cmd m d cmd))
 cmd_is_fields {m} {d} cmd h below = (
   word (codes "cmd") refl,
   (number_field m (let k = h.moment_below in omega arith), (number_field d (let k = h.discr_below in omega arith), verb_fits cmd below)),
@@ -315,12 +339,17 @@ event_fields_fit (events.Show m d) h = show_is_fields h
 pub event_again : (version : Version) (event : Line) → IsEvent event → Speaks version (is_new_line event)
     → entry_in_line version places.Events false (spaced (event_fields event) []) ≡ Ok (entries.Event event)
 event_again version (events.Rx m a) h new =
-    entry_again version places.Events false (codes "rx") (decimal m ∷ port_field a.port ∷ decimal a.iface ∷ address_field a.src ∷ address_field a.dst ∷ decimal a.ttl ∷ hex_field a.payload ∷ [])
+    entry_again version places.Events false (codes "rx")
+    (decimal m ∷ port_field a.port ∷ decimal a.iface ∷ address_field a.src ∷ address_field a.dst ∷ decimal a.ttl ∷ hex_field a.payload ∷ [])
     (rx_is_fields h) (rx_short h) ∙ received_again h
 event_again version (events.Tick tick) h new =
-    cc (entry_again version places.Events false (codes "tick") (decimal tick ∷ []) (event_fields_fit (events.Tick tick) h) (tick_short h), number_again 0 _ tick (omega arith) h (omega arith))
+    cc (
+      entry_again version places.Events false (codes "tick") (decimal tick ∷ []) (event_fields_fit (events.Tick tick) h) (tick_short h),
+      number_again 0 _ tick (omega arith) h (omega arith),
+    )
 event_again version (events.Cmd m d cmd) h new =
-    entry_again version places.Events false (codes "cmd") (decimal m ∷ decimal d ∷ verb_fields cmd) (cmd_is_fields cmd h.0 h.1) (cmd_short cmd h.0 h.1)
+    entry_again version places.Events false (codes "cmd") (decimal m ∷ decimal d ∷ verb_fields cmd) (cmd_is_fields cmd h.0 h.1)
+    (cmd_short cmd h.0 h.1)
     ∙ command_again version cmd h.0 h.1 new
 event_again version (events.Show m d) h new =
     entry_again version places.Events false (codes "show") (decimal m ∷ decimal d ∷ []) (show_is_fields h) (show_short h) ∙ shown_again h

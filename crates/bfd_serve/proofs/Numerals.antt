@@ -1,5 +1,7 @@
 -- Numbers, written and read again.
-use Rattle.bfd_serve.proofs.SpellingCommon.{◌≡◌, ℕ, ◌<◌, ◌≤◌, ◌^◌, ◌==◌, Bool, true, false, ◌&&◌, List, [], ◌∷◌, length, Ok, refl, arith, nat_lt, inl, inr, nat_tests, cases_lt, and_parts, slice_index, decimal, list_all, AllByRecursion, is_number, number_in}
+use Rattle.bfd_serve.proofs.SpellingCommon.{◌≡◌, ℕ, ◌<◌, ◌≤◌, ◌^◌, ◌==◌, Bool, true, false, ◌&&◌, List, [], ◌∷◌, length, Ok, refl, arith}
+use Rattle.bfd_serve.proofs.SpellingCommon.{nat_lt, inl, inr, nat_tests, cases_lt, and_parts, slice_index, decimal, list_all}
+use Rattle.bfd_serve.proofs.SpellingCommon.{AllByRecursion, is_number, number_in}
 use Rattle.std.proofs.lemmas.Fmt.{digits_decimal, digits_value-decimal, decimal_nonempty, first_decimal, decimal_digit, length-decimal-le}
 use Rattle.std.specs.Char.{is_ascii_digit}
 use Rattle.bfd_script.proofs.Decimal.{own}
@@ -22,7 +24,10 @@ digits {n} h = each_digit (decimal n) (digits_decimal own n h)
 
 visible : (ds : List ℕ) → AllByRecursion IsDigit ds → IsField ds
 visible [] all = tt
-visible (d ∷ ds) all = (let low = all.0.above in let high = all.0.below in record { above = omega arith; below = omega arith }, visible ds all.1)
+visible (d ∷ ds) all = (
+  let low = all.0.above in let high = all.0.below in record { above = omega arith; below = omega arith },
+  visible ds all.1,
+)
 
 pub number_field : (n : ℕ) → n < 2 ^ 64 → IsField (decimal n)
 number_field n h = visible (decimal n) (digits h)

@@ -1,5 +1,8 @@
 -- Addresses and bytes, written and read again.
-use Rattle.bfd_serve.proofs.SpellingCommon.{◌≡◌, ℕ, ◌+◌, ◌*◌, ◌/◌, ◌%◌, ◌<◌, ◌≤◌, ◌^◌, ◌==◌, Bool, true, false, cond, List, [], ◌∷◌, ◌++◌, length, Ok, Err, refl, ap, arith, suc, zero, append-nil, length-append, nat_tests, slice_index, codes, decimal, list_all, slice_split, and_parts, hex_field, address_field, dotted_field, each_more}
+use Rattle.bfd_serve.proofs.SpellingCommon.{◌≡◌, ℕ, ◌+◌, ◌*◌, ◌/◌, ◌%◌, ◌<◌, ◌≤◌, ◌^◌, ◌==◌, Bool, true, false, cond, List, [], ◌∷◌, ◌++◌}
+use Rattle.bfd_serve.proofs.SpellingCommon.{length, Ok, Err, refl, ap, arith, suc, zero, append-nil, length-append, nat_tests, slice_index}
+use Rattle.bfd_serve.proofs.SpellingCommon.{codes, decimal, list_all, slice_split, and_parts, hex_field, address_field, dotted_field}
+use Rattle.bfd_serve.proofs.SpellingCommon.{each_more}
 use Rattle.std.proofs.Math.Nat.{mod-lt}
 use Rattle.std.proofs.Math.Seq.{take_all}
 use Rattle.std.specs.Int.{byte_at, bytes_high_first}
@@ -30,7 +33,12 @@ quad_again ha hb hc hd = rw (octet_again ha, octet_again hb, octet_again hc, oct
 parts_again : {a b c d : ℕ} → a < 256 → b < 256 → c < 256 → d < 256
     → slice_split (λ x. x == 46) (dotted_field a b c d) ≡ decimal a ∷ decimal b ∷ decimal c ∷ decimal d ∷ []
 parts_again {a} {b} {c} {d} ha hb hc hd =
-    cc (split_front 46 (decimal a) (decimal b ++ (46 ∷ (decimal c ++ (46 ∷ decimal d)))) (number_dotless a (omega arith)) refl, split_front 46 (decimal b) (decimal c ++ (46 ∷ decimal d)) (number_dotless b (omega arith)) refl, split_front 46 (decimal c) (decimal d) (number_dotless c (omega arith)) refl, split_last 46 (decimal d) (number_dotless d (omega arith)))
+    cc (
+      split_front 46 (decimal a) (decimal b ++ (46 ∷ (decimal c ++ (46 ∷ decimal d)))) (number_dotless a (omega arith)) refl,
+      split_front 46 (decimal b) (decimal c ++ (46 ∷ decimal d)) (number_dotless b (omega arith)) refl,
+      split_front 46 (decimal c) (decimal d) (number_dotless c (omega arith)) refl,
+      split_last 46 (decimal d) (number_dotless d (omega arith)),
+    )
 
 dot_visible : IsVisible 46
 dot_visible = record { above = omega arith; below = omega arith }
@@ -58,7 +66,8 @@ dotted_short a b c d ha hb hc hd =
 
 -- a field of fewer than 32 bytes is no hexadecimal address
 by_length : (odd : Bool) (field : List ℕ)
-    → address_by (cond odd (Err OddLength) (cond false (decode_pairs 0 field) (Err InvalidStringLength))) field ≡ dotted_of (slice_split (λ x. x == 46) field)
+    → address_by (cond odd (Err OddLength) (cond false (decode_pairs 0 field) (Err InvalidStringLength))) field
+    ≡ dotted_of (slice_split (λ x. x == 46) field)
 by_length true field = refl
 by_length false field = refl
 
@@ -87,8 +96,10 @@ encoded_field : (bytes : List ℕ) → IsBytes bytes → IsField (encode_with lo
 unfolding encode_with
 encoded_field [] h = tt
 encoded_field (b ∷ bytes) h =
-    let low = h 0 in
-    (digit_seen lower_digits refl (b / 16) (omega arith), (digit_seen lower_digits refl (b % 16) (omega arith), encoded_field bytes (λ i. h (suc i))))
+    let low = h 0 in (
+      digit_seen lower_digits refl (b / 16) (omega arith),
+      (digit_seen lower_digits refl (b % 16) (omega arith), encoded_field bytes (λ i. h (suc i))),
+    )
 
 hex_visible : IsVisible 45
 hex_visible = record { above = omega arith; below = omega arith }
@@ -114,7 +125,8 @@ bytes_again (b ∷ bytes) h = rw (no_dash b bytes, some_digits b bytes, decode_o
 
 pub payload_again : (bytes : List ℕ) → IsBytes bytes → length bytes ≤ 256 → payload_of (hex_field bytes) ≡ Ok bytes
 payload_again [] h few = refl
-payload_again (b ∷ bytes) h few = rw (no_dash b bytes, some_digits b bytes, decode_of-encode_lower (b ∷ bytes) h) (ap Ok (take_all 256 (b ∷ bytes) few))
+payload_again (b ∷ bytes) h few = rw (no_dash b bytes, some_digits b bytes, decode_of-encode_lower (b ∷ bytes) h)
+    (ap Ok (take_all 256 (b ∷ bytes) few))
 
 -- ---- addresses
 
@@ -125,17 +137,27 @@ address_again (V4 n) h =
     let hc : n / 256 % 256 < 256 = omega arith in
     let hd : n % 256 < 256 = omega arith in
     let sum : (((n / 256 / 256 / 256) * 256 + n / 256 / 256 % 256) * 256 + n / 256 % 256) * 256 + n % 256 ≡ n = omega arith in
-    cc (not_hex (dotted_field (n / 256 / 256 / 256) (n / 256 / 256 % 256) (n / 256 % 256) (n % 256)) (dotted_short _ _ _ _ ha hb hc hd), parts_again ha hb hc hd, quad_again ha hb hc hd)
+    cc (
+      not_hex (dotted_field (n / 256 / 256 / 256) (n / 256 / 256 % 256) (n / 256 % 256) (n % 256)) (dotted_short _ _ _ _ ha hb hc hd),
+      parts_again ha hb hc hd,
+      quad_again ha hb hc hd,
+    )
 address_again (V6 n) h =
-    cc (decode_sized-encode_lower (big_bytes 16 n) 16 (length-bytes_high_first 16 n) (high_bytes 16 n), append-nil (big_bytes 16 n), big_number-reads_back 16 n [] (omega arith))
+    cc (
+      decode_sized-encode_lower (big_bytes 16 n) 16 (length-bytes_high_first 16 n) (high_bytes 16 n),
+      append-nil (big_bytes 16 n),
+      big_number-reads_back 16 n [] (omega arith),
+    )
 
 pub address_is_field : (address : Addr) → IsAddress address → IsField (address_field address)
-address_is_field (V4 n) h = dotted_is_field (n / 256 / 256 / 256) (n / 256 / 256 % 256) (n / 256 % 256) (n % 256) (omega arith) (omega arith) (omega arith) (omega arith)
+address_is_field (V4 n) h = dotted_is_field (n / 256 / 256 / 256) (n / 256 / 256 % 256) (n / 256 % 256) (n % 256) (omega arith)
+    (omega arith) (omega arith) (omega arith)
 address_is_field (V6 n) h = encoded_field (big_bytes 16 n) (high_bytes 16 n)
 
 pub address_short : (address : Addr) → IsAddress address → length (address_field address) ≤ 32
 address_short (V4 n) h =
-    let k = dotted_short (n / 256 / 256 / 256) (n / 256 / 256 % 256) (n / 256 % 256) (n % 256) (omega arith) (omega arith) (omega arith) (omega arith) in omega arith
+    let k = dotted_short (n / 256 / 256 / 256) (n / 256 / 256 % 256) (n / 256 % 256) (n % 256) (omega arith) (omega arith) (omega arith)
+    (omega arith) in omega arith
 address_short (V6 n) h =
     let e = length-encode_with lower_digits (big_bytes 16 n) in
     let k = length-bytes_high_first 16 n in omega arith

@@ -1,5 +1,8 @@
 -- Table rows, written and read again.
-use Rattle.bfd_serve.proofs.SpellingCommon.{◌≡◌, ℕ, ◌≤◌, Bool, true, false, cond, [], ◌∷◌, length, None, Ok, Err, refl, arith, nat_tests, codes, decimal, AllByRecursion, SessionConfig, OutOfRange, Version, entry_in_line, IsHeadRow, IsPairRow, IsReflector, IsRow, IsSeekRow, IsTailRow, spaced, address_field, mode_field, reflector_fields, role_field, row_fields, up_field}
+use Rattle.bfd_serve.proofs.SpellingCommon.{◌≡◌, ℕ, ◌≤◌, Bool, true, false, cond, [], ◌∷◌, length, None, Ok, Err, refl, arith, nat_tests}
+use Rattle.bfd_serve.proofs.SpellingCommon.{codes, decimal, AllByRecursion, SessionConfig, OutOfRange, Version, entry_in_line, IsHeadRow}
+use Rattle.bfd_serve.proofs.SpellingCommon.{IsPairRow, IsReflector, IsRow, IsSeekRow, IsTailRow, spaced, address_field, mode_field}
+use Rattle.bfd_serve.proofs.SpellingCommon.{reflector_fields, role_field, row_fields, up_field}
 use Rattle.bfd_rules.specs.Sound.{IsConfig, is_echo_interval}
 use Rattle.bfd_rules.specs.declared.config.Config.{Config}
 use Rattle.bfd_rules.specs.declared.config.Role.{Role}
@@ -98,7 +101,8 @@ timing_again {c} fit row high = rw (
 
 pair_again : {c : Config} → IsConfig c → IsPairRow c → c.echo ≤ 60000000
     → p2p_row (decimal c.discr ∷ role_field c.role ∷ decimal c.iface ∷ address_field c.local ∷ address_field c.remote
-    ∷ mode_field c.active ∷ decimal c.tx ∷ decimal c.rx ∷ decimal c.mult ∷ decimal c.echo ∷ decimal c.seed ∷ []) ≡ Ok (Pair (record c { keys = None }))
+    ∷ mode_field c.active ∷ decimal c.tx ∷ decimal c.rx ∷ decimal c.mult ∷ decimal c.echo ∷ decimal c.seed ∷ [])
+    ≡ Ok (Pair (record c { keys = None }))
 pair_again fit row high = cc (ends_again fit row, timing_again fit row high)
 
 row_is_fields : {c : Config} → IsConfig c → IsPairRow c → c.echo ≤ 60000000 → AllByRecursion IsField (row_fields (Pair c))
@@ -160,7 +164,8 @@ echo_most roles.Multi n h = grind (arith, nat_tests)
 -- ---- an initiator, a head and a tail
 
 seek_read : {c : SeekConfig} → IsSeekConfig c → IsSeekRow c
-    → initiator_of (decimal c.discr) (decimal c.target) (decimal c.iface) (address_field c.local) (address_field c.remote) (decimal c.tx) (decimal c.mult) (decimal c.seed) ≡ Ok (Seek c)
+    → initiator_of (decimal c.discr) (decimal c.target) (decimal c.iface) (address_field c.local) (address_field c.remote) (decimal c.tx)
+    (decimal c.mult) (decimal c.seed) ≡ Ok (Seek c)
 unfolding initiator_of
 seek_read {c} fit row = rw (
   number_again 1 4294967295 _ fit.discr (let k = row.discr in omega arith) (let k = row.discr in omega arith),
@@ -174,7 +179,28 @@ seek_read {c} fit row = rw (
 ) refl
 
 seek_fields : {c : SeekConfig} → IsSeekConfig c → IsSeekRow c → AllByRecursion IsField (row_fields (Seek c))
-seek_fields {c} fit row = (word (codes "sbfd") refl, (number_field c.discr (let k = row.discr in omega arith), (number_field c.target (let k = row.target in omega arith), (number_field c.iface (let k = fit.iface in omega arith), (address_is_field c.local row.local, (address_is_field c.remote row.remote, (number_field c.tx (let k = fit.tx_most in omega arith), (number_field c.mult (let k = fit.most_mult in omega arith), (number_field c.seed (let k = row.seed in omega arith), tt)))))))))
+seek_fields {c} fit row = (
+  word (codes "sbfd") refl,
+  (
+    number_field c.discr (let k = row.discr in omega arith),
+    (
+      number_field c.target (let k = row.target in omega arith),
+      (
+        number_field c.iface (let k = fit.iface in omega arith),
+        (
+          address_is_field c.local row.local,
+          (
+            address_is_field c.remote row.remote,
+            (
+              number_field c.tx (let k = fit.tx_most in omega arith),
+              (number_field c.mult (let k = fit.most_mult in omega arith), (number_field c.seed (let k = row.seed in omega arith), tt)),
+            ),
+          ),
+        ),
+      ),
+    ),
+  ),
+)
 
 seek_short : {c : SeekConfig} → IsSeekConfig c → IsSeekRow c → total (row_fields (Seek c)) ≤ 4096
 seek_short {c} fit row =
@@ -189,7 +215,8 @@ seek_short {c} fit row =
     omega arith
 
 head_read : {c : HeadConfig} → IsHeadConfig c → IsHeadRow c
-    → sender_of (decimal c.discr) (decimal c.iface) (address_field c.local) (address_field c.group) (decimal c.tx) (decimal c.mult) (decimal c.seed) ≡ Ok (Head c)
+    → sender_of (decimal c.discr) (decimal c.iface) (address_field c.local) (address_field c.group) (decimal c.tx) (decimal c.mult)
+    (decimal c.seed) ≡ Ok (Head c)
 unfolding sender_of
 head_read {c} fit row = rw (
   number_again 1 4294967295 _ fit.discr (let k = row.discr in omega arith) (let k = row.discr in omega arith),
@@ -202,7 +229,25 @@ head_read {c} fit row = rw (
 ) refl
 
 head_fields : {c : HeadConfig} → IsHeadConfig c → IsHeadRow c → AllByRecursion IsField (row_fields (Head c))
-head_fields {c} fit row = (word (codes "head") refl, (number_field c.discr (let k = row.discr in omega arith), (number_field c.iface (let k = fit.iface in omega arith), (address_is_field c.local row.local, (address_is_field c.group row.group, (number_field c.tx (let k = fit.tx_most in omega arith), (number_field c.mult (let k = fit.most_mult in omega arith), (number_field c.seed (let k = row.seed in omega arith), tt))))))))
+head_fields {c} fit row = (
+  word (codes "head") refl,
+  (
+    number_field c.discr (let k = row.discr in omega arith),
+    (
+      number_field c.iface (let k = fit.iface in omega arith),
+      (
+        address_is_field c.local row.local,
+        (
+          address_is_field c.group row.group,
+          (
+            number_field c.tx (let k = fit.tx_most in omega arith),
+            (number_field c.mult (let k = fit.most_mult in omega arith), (number_field c.seed (let k = row.seed in omega arith), tt)),
+          ),
+        ),
+      ),
+    ),
+  ),
+)
 
 head_short : {c : HeadConfig} → IsHeadConfig c → IsHeadRow c → total (row_fields (Head c)) ≤ 4096
 head_short {c} fit row =
@@ -227,7 +272,19 @@ tail_read {c} fit row = rw (
 ) refl
 
 tail_fields : {c : TailConfig} → IsTailConfig c → IsTailRow c → AllByRecursion IsField (row_fields (Tail c))
-tail_fields {c} fit row = (word (codes "tail") refl, (number_field c.discr (let k = row.discr in omega arith), (number_field c.head (let k = row.head in omega arith), (number_field c.iface (let k = fit.iface in omega arith), (address_is_field c.group row.group, (address_is_field c.source row.source, tt))))))
+tail_fields {c} fit row = (
+  word (codes "tail") refl,
+  (
+    number_field c.discr (let k = row.discr in omega arith),
+    (
+      number_field c.head (let k = row.head in omega arith),
+      (
+        number_field c.iface (let k = fit.iface in omega arith),
+        (address_is_field c.group row.group, (address_is_field c.source row.source, tt)),
+      ),
+    ),
+  ),
+)
 
 tail_short : {c : TailConfig} → IsTailConfig c → IsTailRow c → total (row_fields (Tail c)) ≤ 4096
 tail_short {c} fit row =
@@ -257,22 +314,27 @@ pub row_again : (version : Version) (live : Bool) (c : SessionConfig) → IsFit 
 row_again version live (Pair c) fit row =
     let high = echo_most c.role c.echo fit.echo_range in
     cc (
-      entry_again version places.Table live (codes "p2p") (decimal c.discr ∷ role_field c.role ∷ decimal c.iface ∷ address_field c.local ∷ address_field c.remote ∷ mode_field c.active ∷ decimal c.tx ∷ decimal c.rx ∷ decimal c.mult ∷ decimal c.echo ∷ decimal c.seed ∷ [])
+      entry_again version places.Table live (codes "p2p")
+          (decimal c.discr ∷ role_field c.role ∷ decimal c.iface ∷ address_field c.local ∷ address_field c.remote ∷ mode_field c.active ∷
+          decimal c.tx ∷ decimal c.rx ∷ decimal c.mult ∷ decimal c.echo ∷ decimal c.seed ∷ [])
           (row_is_fields fit row high) (row_short fit row high),
       pair_again fit row high,
     )
 row_again version live (Seek c) fit row = cc (
-  entry_again version places.Table live (codes "sbfd") (decimal c.discr ∷ decimal c.target ∷ decimal c.iface ∷ address_field c.local ∷ address_field c.remote ∷ decimal c.tx ∷ decimal c.mult ∷ decimal c.seed ∷ [])
+  entry_again version places.Table live (codes "sbfd") (decimal c.discr ∷ decimal c.target ∷ decimal c.iface ∷ address_field c.local ∷
+      address_field c.remote ∷ decimal c.tx ∷ decimal c.mult ∷ decimal c.seed ∷ [])
       (seek_fields fit row) (seek_short fit row),
   seek_read fit row,
 )
 row_again version live (Head c) fit row = cc (
-  entry_again version places.Table live (codes "head") (decimal c.discr ∷ decimal c.iface ∷ address_field c.local ∷ address_field c.group ∷ decimal c.tx ∷ decimal c.mult ∷ decimal c.seed ∷ [])
+  entry_again version places.Table live (codes "head") (decimal c.discr ∷ decimal c.iface ∷ address_field c.local ∷ address_field c.group ∷
+      decimal c.tx ∷ decimal c.mult ∷ decimal c.seed ∷ [])
       (head_fields fit row) (head_short fit row),
   head_read fit row,
 )
 row_again version live (Tail c) fit row = cc (
-  entry_again version places.Table live (codes "tail") (decimal c.discr ∷ decimal c.head ∷ decimal c.iface ∷ address_field c.group ∷ address_field c.source ∷ [])
+  entry_again version places.Table live (codes "tail")
+      (decimal c.discr ∷ decimal c.head ∷ decimal c.iface ∷ address_field c.group ∷ address_field c.source ∷ [])
       (tail_fields fit row) (tail_short fit row),
   tail_read fit row,
 )
@@ -290,7 +352,10 @@ reflector_read {r} row = rw (
 pub reflector_fields_fit : {r : Reflector} → IsReflector r → AllByRecursion IsField (reflector_fields r)
 reflector_fields_fit {r} row = (
   word (codes "reflector") refl,
-  (number_field r.discr (let k = row.discr_below in omega arith), (number_field r.rx (let k = row.rx_most in omega arith), (up_is_field r.up, tt))),
+  (
+    number_field r.discr (let k = row.discr_below in omega arith),
+    (number_field r.rx (let k = row.rx_most in omega arith), (up_is_field r.up, tt)),
+  ),
 )
 
 reflector_short : {r : Reflector} → IsReflector r → total (reflector_fields r) ≤ 4096
@@ -303,4 +368,8 @@ reflector_short {r} row =
 pub reflector_again : (version : Version) (live : Bool) {r : Reflector} → IsReflector r
     → entry_in_line version places.Table live (spaced (reflector_fields r) []) ≡ Ok (entries.Reflect r)
 reflector_again version live {r} row =
-    cc (entry_again version places.Table live (codes "reflector") (decimal r.discr ∷ decimal r.rx ∷ up_field r.up ∷ []) (reflector_fields_fit row) (reflector_short row), reflector_read row)
+    cc (
+      entry_again version places.Table live (codes "reflector") (decimal r.discr ∷ decimal r.rx ∷ up_field r.up ∷ [])
+          (reflector_fields_fit row) (reflector_short row),
+      reflector_read row,
+    )

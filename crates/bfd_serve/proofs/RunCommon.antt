@@ -1,7 +1,10 @@
 -- Names that proofs of this crate cite, passed on from one place. Declares nothing.
-pub use Rattle.std.proofs.Common.{Bool, Err, IfOk, List, None, Ok, Option, Result, Some, [], ap, append-nil, append_assoc, arith, cond, drop, false, get_or, inl, inr, length, length-append, map, refl, slice_get, slice_index_or, subst, suc, sym, take, true, vec_capacity, zero, ℕ, ◌*◌, ◌++◌, ◌+◌, ◌-◌, ◌<◌, ◌==◌, ◌∙◌, ◌∷◌, ◌≡◌, ◌≢◌, ◌≤◌, ◌⊎◌}
+pub use Rattle.std.proofs.Common.{Bool, Err, IfOk, List, None, Ok, Option, Result, Some, [], ap, append-nil, append_assoc, arith, cond}
+pub use Rattle.std.proofs.Common.{drop, false, get_or, inl, inr, length, length-append, map, refl, slice_get, slice_index_or, subst, suc}
+pub use Rattle.std.proofs.Common.{sym, take, true, vec_capacity, zero, ℕ, ◌*◌, ◌++◌, ◌+◌, ◌-◌, ◌<◌, ◌==◌, ◌∙◌, ◌∷◌, ◌≡◌, ◌≢◌, ◌≤◌, ◌⊎◌}
 pub use Rattle.std.proofs.lemmas.Bool.Decides.{nat_tests}
-pub use Rattle.std.proofs.lemmas.List.{drop-drop, drop_all, drop_more, get_or-map, get_or_append_left, get_or_default, length-map, map-append, same_lists}
+pub use Rattle.std.proofs.lemmas.List.{drop-drop, drop_all, drop_more, get_or-map, get_or_append_left, get_or_default, length-map}
+pub use Rattle.std.proofs.lemmas.List.{map-append, same_lists}
 pub use Rattle.std.proofs.lemmas.List.Elements.{All-cons, All-get_or, All-head, All-same, All-tail, recursion_from_All}
 pub use Rattle.std.proofs.lemmas.Option.{get_or_from_slice_get, same_Some, slice_get_past, slice_get_within}
 pub use Rattle.std.specs.List.{All, AllByRecursion}
@@ -17,7 +20,8 @@ pub use Rattle.bfd_serve.specs.declared.ending.End.{End}
 pub use Rattle.bfd_serve.specs.declared.serving.Limits.{Limits}
 pub use Rattle.bfd_serve.specs.Finishes.{HadMemory, IsUnspent, finish_by, finish_from, refused_as}
 pub use Rattle.bfd_serve.specs.Linking.{AreShut, AreTheirs, AreUncalled, IsFaultOf, IsOpenTo, IsUncalled, IsUnopened}
-pub use Rattle.bfd_serve.specs.Runs.{AreClosedShards, AreDealt, HaveRun, IsOpened, TimerRan, WorkerRan, all_on, calls_on, history_at, journal_in, no_words, script_with, told_on_link}
+pub use Rattle.bfd_serve.specs.Runs.{AreClosedShards, AreDealt, HaveRun, IsOpened, TimerRan, WorkerRan, all_on, calls_on, history_at}
+pub use Rattle.bfd_serve.specs.Runs.{journal_in, no_words, script_with, told_on_link}
 pub use Rattle.bfd_session.specs.Kinds.{Running, configs_of}
 pub use Rattle.bfd_session.specs.Rows.{AreFit, place_of, table_of}
 pub use Rattle.bfd_session.specs.declared.event.SessionConfig.{SessionConfig}

@@ -1,5 +1,12 @@
 -- A whole script, written and read again.
-use Rattle.bfd_serve.proofs.SpellingCommon.{◌≡◌, ℕ, ◌+◌, ◌<◌, ◌≤◌, ◌==◌, ◌^◌, Bool, true, false, ◌||◌, List, [], ◌∷◌, ◌++◌, length, Option, Some, None, Ok, Err, cond, refl, ap, ◌∙◌, arith, suc, nat_lt, nat_le, append_assoc, append-nil, length-append, nat_tests, codes, find, is_some, not, list_any, AllByRecursion, or_from, SessionConfig, NoSuchSession, OutOfRange, SameAddresses, SameDiscr, SameKey, TooMany, Version, lines_of, AreKeys, AreNext, IsEvent, IsKey, IsNext, IsReflector, IsRow, line, spaced, auth_fields, config_text, event_fields, events_text, has_second, is_new_line, is_new_row, key_fields, keys_text, list_text, more_text, pool_text, reflector_fields, row_fields, rows_text, spelling, version_field, version_of, each_more, each_to}
+use Rattle.bfd_serve.proofs.SpellingCommon.{◌≡◌, ℕ, ◌+◌, ◌<◌, ◌≤◌, ◌==◌, ◌^◌, Bool, true, false, ◌||◌, List, [], ◌∷◌, ◌++◌, length, Option}
+use Rattle.bfd_serve.proofs.SpellingCommon.{Some, None, Ok, Err, cond, refl, ap, ◌∙◌, arith, suc, nat_lt, nat_le, append_assoc, append-nil}
+use Rattle.bfd_serve.proofs.SpellingCommon.{length-append, nat_tests, codes, find, is_some, not, list_any, AllByRecursion, or_from}
+use Rattle.bfd_serve.proofs.SpellingCommon.{SessionConfig, NoSuchSession, OutOfRange, SameAddresses, SameDiscr, SameKey, TooMany, Version}
+use Rattle.bfd_serve.proofs.SpellingCommon.{lines_of, AreKeys, AreNext, IsEvent, IsKey, IsNext, IsReflector, IsRow, line, spaced}
+use Rattle.bfd_serve.proofs.SpellingCommon.{auth_fields, config_text, event_fields, events_text, has_second, is_new_line, is_new_row}
+use Rattle.bfd_serve.proofs.SpellingCommon.{key_fields, keys_text, list_text, more_text, pool_text, reflector_fields, row_fields, rows_text}
+use Rattle.bfd_serve.proofs.SpellingCommon.{spelling, version_field, version_of, each_more, each_to}
 use Rattle.bfd_script.proofs.Numbered.{none_any}
 use Rattle.bfd_packet.specs.KeyChain.{KeyChain, fits_kind, has_id}
 use Rattle.bfd_packet.specs.declared.keys.AuthType.{AuthType}
@@ -13,7 +20,8 @@ use Rattle.bfd_script.specs.declared.fields.fault.LineFault.{LineFault}
 use Rattle.bfd_script.specs.declared.line.entries.Line.{Line}
 use Rattle.bfd_script.specs.declared.line.words.Place.TheVariants as places
 use Rattle.bfd_script.specs.declared.line.words.Version.TheVariants.{One, Two}
-use Rattle.bfd_script.specs.Reading.{Lists, State, is_named, script_of, start, line_read, told_from, unless, with_config, with_event, with_key, with_keys, with_reflector}
+use Rattle.bfd_script.specs.Reading.{Lists, State, is_named, script_of, start, line_read, told_from, unless, with_config, with_event}
+use Rattle.bfd_script.specs.Reading.{with_key, with_keys, with_reflector}
 use Rattle.bfd_script.proofs.Rising.{inserted_last}
 use Rattle.bfd_script.specs.Rows.{changed, given, has_discr, has_reflector, inserted, is_pair, pooled, keyed_more, keyed_with, keys_in}
 use Rattle.bfd_script.specs.Secrets.{key_fault, one_key}
@@ -68,7 +76,8 @@ row_taken version {c} {done} follows room =
     let few : nat_le 65536 (length done + 0) ≡ false = grind (arith, nat_tests) in
     cc (
       taken_last (at_table version (inserted c done))
-          (or_from (has_discr (discr_of c) done) false (none_above (discr_of c) done follows.above) refl) (none_same (same_selector c) done follows.apart) few,
+          (or_from (has_discr (discr_of c) done) false (none_above (discr_of c) done follows.above) refl)
+          (none_same (same_selector c) done follows.apart) few,
       inserted_last c done follows.above,
     )
 
@@ -82,14 +91,16 @@ row_step : (version : Version) {c : SessionConfig} {done : List SessionConfig} �
 row_step version {c} fit row follows room = cc (row_again version false c fit row, row_taken version (follows_bare c follows) room)
 
 -- the keys of the last session
-find_last : (c : SessionConfig) (done : List SessionConfig) → AllByRecursion (λ d. discr_of d < discr_of c) done → find (λ d. discr_of c == discr_of d) (done ++ c ∷ []) ≡ Some c
+find_last : (c : SessionConfig) (done : List SessionConfig) → AllByRecursion (λ d. discr_of d < discr_of c) done
+    → find (λ d. discr_of c == discr_of d) (done ++ c ∷ []) ≡ Some c
 find_last c [] h = let same : (discr_of c == discr_of c) ≡ true = grind (arith, nat_tests) in rw same refl
 find_last c (d ∷ done) h =
     let low = h.0 in
     let other : (discr_of c == discr_of d) ≡ false = grind (arith, nat_tests) in
     rw (other, find_last c done h.1) refl
 
-changed_last : (f : SessionConfig → SessionConfig) (c : SessionConfig) (done : List SessionConfig) → AllByRecursion (λ d. discr_of d < discr_of c) done
+changed_last : (f : SessionConfig → SessionConfig) (c : SessionConfig) (done : List SessionConfig)
+    → AllByRecursion (λ d. discr_of d < discr_of c) done
     → changed (discr_of c) f (done ++ c ∷ []) ≡ done ++ f c ∷ []
 changed_last f c [] h = let same : (discr_of c == discr_of c) ≡ true = grind (arith, nat_tests) in rw same refl
 changed_last f c (d ∷ done) h =
@@ -101,15 +112,19 @@ taken_step : {keyed there : Bool} (next : State) → keyed ≡ false → there �
     → cond keyed (Err SameDiscr) (cond (not there) (Err NoSuchSession) (Ok next)) ≡ Ok next
 taken_step next e f = rw (e, f) refl
 
-keys_taken : (version : Version) (c : Config) (keys : KeyChain) (done : List SessionConfig) → c.keys ≡ None → AllByRecursion (λ d. discr_of d < c.discr) done
-    → with_keys c.discr keys (at_table version (done ++ Pair c ∷ [])) ≡ Ok (at_table version (done ++ Pair (record c { keys = Some keys }) ∷ []))
+keys_taken : (version : Version) (c : Config) (keys : KeyChain) (done : List SessionConfig) → c.keys ≡ None
+    → AllByRecursion (λ d. discr_of d < c.discr) done
+    → with_keys c.discr keys (at_table version (done ++ Pair c ∷ []))
+    ≡ Ok (at_table version (done ++ Pair (record c { keys = Some keys }) ∷ []))
 keys_taken version c keys done bare h = cc (
   taken_step (at_table version (given c.discr keys (done ++ Pair c ∷ [])))
-      (ap (λ o. is_some (keys_in o)) (find_last (Pair c) done h) ∙ ap (λ o. is_some o) bare) (ap (λ o. is_pair o) (find_last (Pair c) done h)),
+      (ap (λ o. is_some (keys_in o)) (find_last (Pair c) done h) ∙ ap (λ o. is_some o) bare)
+      (ap (λ o. is_pair o) (find_last (Pair c) done h)),
   changed_last (keyed_with keys) (Pair c) done h,
 )
 
-auth_step : (version : Version) (c : Config) (kind : AuthType) (key : Key) (done : List SessionConfig) → c.keys ≡ None → 0 < c.discr → c.discr < 2 ^ 32
+auth_step : (version : Version) (c : Config) (kind : AuthType) (key : Key) (done : List SessionConfig) → c.keys ≡ None → 0 < c.discr
+    → c.discr < 2 ^ 32
     → IsKey key → fits_kind kind key.secret ≡ true → AllByRecursion (λ d. discr_of d < c.discr) done
     → line_read false (at_table version (done ++ Pair c ∷ [])) (spaced (auth_fields c.discr kind key) [])
     ≡ Ok (at_table version (done ++ Pair (record c { keys = Some (one_key kind key.id key.secret) }) ∷ []))
@@ -123,7 +138,8 @@ with_list c kind list = Pair (record c { keys = Some (record { kind = kind; list
 free_step : {fault : Option LineFault} (next : State) → fault ≡ None → unless fault next ≡ Ok next
 free_step next e = rw e refl
 
-key_taken : (c : Config) (kind : AuthType) (before : List Key) (key : Key) (done : List SessionConfig) → key_fault (Some (record { kind = kind; list = before })) key ≡ None
+key_taken : (c : Config) (kind : AuthType) (before : List Key) (key : Key) (done : List SessionConfig)
+    → key_fault (Some (record { kind = kind; list = before })) key ≡ None
     → AllByRecursion (λ d. discr_of d < c.discr) done → with_key c.discr key (at_table Two (done ++ with_list c kind before ∷ []))
     ≡ Ok (at_table Two (done ++ with_list c kind (before ++ key ∷ []) ∷ []))
 key_taken c kind before key done free h = cc (
@@ -133,11 +149,13 @@ key_taken c kind before key done free h = cc (
 )
 
 -- a key that may come behind others has room
-room_step : (fits taken full : Bool) → cond (not fits) (Some OutOfRange) (cond taken (Some SameKey) (cond full (Some TooMany) None)) ≡ None → fits ≡ true
+room_step : (fits taken full : Bool) → cond (not fits) (Some OutOfRange) (cond taken (Some SameKey) (cond full (Some TooMany) None)) ≡ None
+    → fits ≡ true
 room_step true taken full e = refl
 room_step false taken full e = cc
 
-has_room : (kind : AuthType) (before : List Key) (key : Key) → key_fault (Some (record { kind = kind; list = before })) key ≡ None → fits_kind kind key.secret ≡ true
+has_room : (kind : AuthType) (before : List Key) (key : Key) → key_fault (Some (record { kind = kind; list = before })) key ≡ None
+    → fits_kind kind key.secret ≡ true
 has_room kind before key e = room_step (fits_kind kind key.secret) (has_id key.id before) (nat_le 4 (length before)) e
 
 key_step : (c : Config) {kind : AuthType} {before : List Key} {key : Key} (done : List SessionConfig) → 0 < c.discr → c.discr < 2 ^ 32
@@ -147,7 +165,8 @@ key_step : (c : Config) {kind : AuthType} {before : List Key} {key : Key} (done 
 key_step c {kind} {before} {key} done some below next h =
     cc (key_again false _ kind key some below next.fits (has_room kind before key next.free), key_taken c kind before key done next.free h)
 
-more_again : (c : Config) (kind : AuthType) (before keys : List Key) (done : List SessionConfig) (number : ℕ) (rest : List ℕ) → 0 < c.discr → c.discr < 2 ^ 32
+more_again : (c : Config) (kind : AuthType) (before keys : List Key) (done : List SessionConfig) (number : ℕ) (rest : List ℕ) → 0 < c.discr
+    → c.discr < 2 ^ 32
     → AreNext kind before keys → AllByRecursion (λ d. discr_of d < c.discr) done
     → told_from false (at_table Two (done ++ with_list c kind before ∷ [])) number (lines_of (more_text c.discr keys ++ rest))
     ≡ told_from false (at_table Two (done ++ with_list c kind (before ++ keys) ∷ [])) (number + length keys) (lines_of rest)
@@ -158,7 +177,8 @@ more_again c kind before (key ∷ keys) done number rest some below next h =
     cc (
       append_assoc (line (key_fields c.discr key)) (more_text c.discr keys) rest,
       line_taken (at_table Two (done ++ with_list c kind before ∷ [])) number (key_fields c.discr key) (more_text c.discr keys ++ rest)
-          (lines_again (key_fields c.discr key) (more_text c.discr keys ++ rest) (key_fields_fit below next.0.fits)) (key_step c done some below next.0 h),
+          (lines_again (key_fields c.discr key) (more_text c.discr keys ++ rest) (key_fields_fit below next.0.fits))
+          (key_step c done some below next.0 h),
       more_again c kind (before ++ key ∷ []) keys done (number + 1) rest some below next.1 h,
       append_assoc before (key ∷ []) keys,
     )
@@ -177,16 +197,19 @@ no_others : (n : ℕ) → nat_lt 1 (suc (suc n)) ≡ false → ⊥
 no_others n e = let more : nat_lt 1 (suc (suc n)) ≡ true = grind (arith, nat_tests) in cc
 
 -- the first key, and then the others, which version 1 has no lines for
-others_again : (version : Version) (c : Config) (kind : AuthType) (key : Key) (keys : List Key) (done : List SessionConfig) (number : ℕ) (rest : List ℕ) → 0 < c.discr → c.discr < 2 ^ 32
+others_again : (version : Version) (c : Config) (kind : AuthType) (key : Key) (keys : List Key) (done : List SessionConfig) (number : ℕ)
+    (rest : List ℕ) → 0 < c.discr → c.discr < 2 ^ 32
     → Speaks version (nat_lt 1 (suc (length keys))) → AreNext kind (key ∷ []) keys → AllByRecursion (λ d. discr_of d < c.discr) done
     → told_from false (at_table version (done ++ with_list c kind (key ∷ []) ∷ [])) number (lines_of (more_text c.discr keys ++ rest))
     ≡ told_from false (at_table version (done ++ with_list c kind (key ∷ keys) ∷ [])) (number + length keys) (lines_of rest)
 others_again One c kind key [] done number rest some below speaks next h =
     let e : number + 0 ≡ number = omega arith in rw e refl
 others_again One c kind key (other ∷ keys) done number rest some below speaks next h = absurd (no_others (length keys) speaks)
-others_again Two c kind key keys done number rest some below speaks next h = more_again c kind (key ∷ []) keys done number rest some below next h
+others_again Two c kind key keys done number rest some below speaks next h =
+    more_again c kind (key ∷ []) keys done number rest some below next h
 
-list_again : (version : Version) (c : Config) (kind : AuthType) (list : List Key) (done : List SessionConfig) (number : ℕ) (rest : List ℕ) → c.keys ≡ None → 0 < c.discr → c.discr < 2 ^ 32
+list_again : (version : Version) (c : Config) (kind : AuthType) (list : List Key) (done : List SessionConfig) (number : ℕ) (rest : List ℕ)
+    → c.keys ≡ None → 0 < c.discr → c.discr < 2 ^ 32
     → Speaks version (nat_lt 1 (length list)) → 0 < length list → AreNext kind [] list → AllByRecursion (λ d. discr_of d < c.discr) done
     → told_from false (at_table version (done ++ Pair c ∷ [])) number (lines_of (list_text c.discr kind list ++ rest))
     ≡ told_from false (at_table version (done ++ with_list c kind list ∷ [])) (number + length list) (lines_of rest)
@@ -201,7 +224,8 @@ list_again version c kind (key ∷ keys) done number rest bare some below speaks
       others_again version c kind key keys done (number + 1) rest some below speaks next.1 h,
     )
 
-keys_again : (version : Version) (c : Config) (keys : Option KeyChain) (done : List SessionConfig) (number : ℕ) (rest : List ℕ) → 0 < c.discr → c.discr < 2 ^ 32
+keys_again : (version : Version) (c : Config) (keys : Option KeyChain) (done : List SessionConfig) (number : ℕ) (rest : List ℕ)
+    → 0 < c.discr → c.discr < 2 ^ 32
     → Speaks version (has_second keys) → AreKeys keys → AllByRecursion (λ d. discr_of d < c.discr) done
     → told_from false (at_table version (done ++ Pair (record c { keys = None }) ∷ [])) number (lines_of (keys_text c.discr keys ++ rest))
     ≡ told_from false (at_table version (done ++ Pair (record c { keys = keys }) ∷ [])) (past_keys number keys) (lines_of rest)
@@ -213,26 +237,36 @@ bare_again : (version : Version) (c : SessionConfig) (done : List SessionConfig)
     → Speaks version (is_new_row c) → AllByRecursion (λ d. discr_of d < discr_of c) done
     → told_from false (at_table version (done ++ bare c ∷ [])) number (lines_of (keys_text (discr_of c) (keys_in (Some c)) ++ rest))
     ≡ told_from false (at_table version (done ++ c ∷ [])) (past_keys number (keys_in (Some c))) (lines_of rest)
-bare_again version (Pair c) done number rest fit row speaks h = keys_again version c c.keys done number rest fit.discr row.discr speaks row.keys h
+bare_again version (Pair c) done number rest fit row speaks h =
+    keys_again version c c.keys done number rest fit.discr row.discr speaks row.keys h
 bare_again version c done number rest fit row speaks h = refl
 
-session_again : (version : Version) {c : SessionConfig} {done : List SessionConfig} (number : ℕ) (rest : List ℕ) → IsFit c → IsRow c → Follows done c
-    → Speaks version (is_new_row c) → length done < 65536 → told_from false (at_table version done) number (lines_of (config_text c ++ rest))
+session_again : (version : Version) {c : SessionConfig} {done : List SessionConfig} (number : ℕ) (rest : List ℕ) → IsFit c → IsRow c
+    → Follows done c
+    → Speaks version (is_new_row c) → length done < 65536
+    → told_from false (at_table version done) number (lines_of (config_text c ++ rest))
     ≡ told_from false (at_table version (done ++ c ∷ [])) (past_keys (number + 1) (keys_in (Some c))) (lines_of rest)
 session_again version {c} {done} number rest fit row follows speaks room = cc (
   append_assoc (line (row_fields c)) (keys_text (discr_of c) (keys_in (Some c))) rest,
   line_taken (at_table version done) number (row_fields c) (keys_text (discr_of c) (keys_in (Some c)) ++ rest)
-      (lines_again (row_fields c) (keys_text (discr_of c) (keys_in (Some c)) ++ rest) (row_fields_fit c fit row)) (row_step version fit row follows room),
+      (lines_again (row_fields c) (keys_text (discr_of c) (keys_in (Some c)) ++ rest) (row_fields_fit c fit row))
+      (row_step version fit row follows room),
   bare_again version c done (number + 1) rest fit row speaks follows.above,
 )
 
-rows_again : (version : Version) (cs done : List SessionConfig) (number : ℕ) (rest : List ℕ) → AllByRecursion IsFit cs → AllByRecursion IsRow cs → AllByRecursion (λ c. Speaks version (is_new_row c)) cs → Ready done cs
+rows_again : (version : Version) (cs done : List SessionConfig) (number : ℕ) (rest : List ℕ) → AllByRecursion IsFit cs
+    → AllByRecursion IsRow cs → AllByRecursion (λ c. Speaks version (is_new_row c)) cs → Ready done cs
     → length done + length cs ≤ 65536 → told_from false (at_table version done) number (lines_of (rows_text cs ++ rest))
     ≡ told_from false (at_table version (done ++ cs)) (past number cs) (lines_of rest)
 rows_again version [] done number rest fit row speaks follows room = rw (append-nil done) refl
 rows_again version (c ∷ cs) done number rest fit row speaks follows room =
     let more = length-append done (c ∷ []) in
-    cc (append_assoc (config_text c) (rows_text cs) rest, session_again version number (rows_text cs ++ rest) fit.0 row.0 follows.0 speaks.0 (omega arith), rows_again version cs (done ++ c ∷ []) (past_keys (number + 1) (keys_in (Some c))) rest fit.1 row.1 speaks.1 follows.1 (omega arith), (append_assoc done (c ∷ []) cs))
+    cc (
+      append_assoc (config_text c) (rows_text cs) rest,
+      session_again version number (rows_text cs ++ rest) fit.0 row.0 follows.0 speaks.0 (omega arith),
+      rows_again version cs (done ++ c ∷ []) (past_keys (number + 1) (keys_in (Some c))) rest fit.1 row.1 speaks.1 follows.1 (omega arith),
+      (append_assoc done (c ∷ []) cs),
+    )
 
 -- ---- the reflectors
 
@@ -258,10 +292,12 @@ AllBelow done pool = AllByRecursion (λ d. AllByRecursion (λ r. d.discr < r.dis
 below_next : (d r : Reflector) (pool : List Reflector) → AllByRecursion (λ q. d.discr < q.discr) (r ∷ pool) → d.discr < r.discr
 below_next d r pool h = h.0
 
-below_rest : (d r : Reflector) (pool : List Reflector) → AllByRecursion (λ q. d.discr < q.discr) (r ∷ pool) → AllByRecursion (λ q. d.discr < q.discr) pool
+below_rest : (d r : Reflector) (pool : List Reflector) → AllByRecursion (λ q. d.discr < q.discr) (r ∷ pool)
+    → AllByRecursion (λ q. d.discr < q.discr) pool
 below_rest d r pool h = h.1
 
-free_next : {taken full : Bool} (next : State) → taken ≡ false → full ≡ false → cond taken (Err SameDiscr) (cond full (Err TooMany) (Ok next)) ≡ Ok next
+free_next : {taken full : Bool} (next : State) → taken ≡ false → full ≡ false
+    → cond taken (Err SameDiscr) (cond full (Err TooMany) (Ok next)) ≡ Ok next
 free_next next e f = rw (e, f) refl
 
 reflector_taken : (version : Version) (cs : List SessionConfig) (r : Reflector) (done : List Reflector) → has_discr r.discr cs ≡ false
@@ -270,16 +306,19 @@ reflector_taken : (version : Version) (cs : List SessionConfig) (r : Reflector) 
 reflector_taken version cs r done apart h room =
     let few : nat_le 65536 (length cs + length done) ≡ false = grind (arith, nat_tests) in
     cc (
-      free_next (at_pool version cs (pooled r done)) (or_from (has_discr r.discr cs) (has_reflector r.discr done) apart (no_reflector r.discr done h)) few,
+      free_next (at_pool version cs (pooled r done))
+          (or_from (has_discr r.discr cs) (has_reflector r.discr done) apart (no_reflector r.discr done h)) few,
       pooled_last r done h,
     )
 
-reflector_step : (version : Version) (cs : List SessionConfig) {r : Reflector} (done : List Reflector) → IsReflector r → has_discr r.discr cs ≡ false
+reflector_step : (version : Version) (cs : List SessionConfig) {r : Reflector} (done : List Reflector) → IsReflector r
+    → has_discr r.discr cs ≡ false
     → AllByRecursion (λ d. d.discr < r.discr) done → length cs + length done < 65536
     → line_read false (at_pool version cs done) (spaced (reflector_fields r) []) ≡ Ok (at_pool version cs (done ++ r ∷ []))
 reflector_step version cs {r} done row apart h room = cc (reflector_again version false row, reflector_taken version cs r done apart h room)
 
-pool_again : (version : Version) (cs : List SessionConfig) (pool done : List Reflector) (number : ℕ) (rest : List ℕ) → AllByRecursion IsReflector pool → AreApart cs pool
+pool_again : (version : Version) (cs : List SessionConfig) (pool done : List Reflector) (number : ℕ) (rest : List ℕ)
+    → AllByRecursion IsReflector pool → AreApart cs pool
     → pools.Ascends pool → AllBelow done pool → length cs + (length done + length pool) ≤ 65536
     → told_from false (at_pool version cs done) number (lines_of (pool_text pool ++ rest))
     ≡ told_from false (at_pool version cs (done ++ pool)) (number + length pool) (lines_of rest)
@@ -294,7 +333,8 @@ pool_again version cs (r ∷ pool) done number rest row apart up below room =
           (lines_again (reflector_fields r) (pool_text pool ++ rest) (reflector_fields_fit row.0))
           (reflector_step version cs done row.0 apart.0 (each_to done (λ d h. below_next d r pool h) below) (omega arith)),
       pool_again version cs pool (done ++ r ∷ []) (number + 1) rest row.1 apart.1 up.1
-          (each_more (λ d. AllByRecursion (λ q. d.discr < q.discr) pool) done (r ∷ []) (each_to done (λ d h. below_rest d r pool h) below) (up.0, tt)) (omega arith),
+          (each_more (λ d. AllByRecursion (λ q. d.discr < q.discr) pool) done (r ∷ []) (each_to done (λ d h. below_rest d r pool h) below)
+          (up.0, tt)) (omega arith),
       (append_assoc done (r ∷ []) pool),
     )
 
@@ -306,12 +346,15 @@ event_taken event s named room =
     let few : nat_le 200000 (length s.events) ≡ false = grind (arith, nat_tests) in
     rw (named, few) refl
 
-event_step : (version : Version) (event : Line) (configs : List SessionConfig) (pool : List Reflector) (done : List Line) → IsEvent event → is_named event configs ≡ true → length done < 200000 → Speaks version (is_new_line event)
-    → line_read false (at_events version configs pool done) (spaced (event_fields event) []) ≡ Ok (at_events version configs pool (done ++ event ∷ []))
+event_step : (version : Version) (event : Line) (configs : List SessionConfig) (pool : List Reflector) (done : List Line) → IsEvent event
+    → is_named event configs ≡ true → length done < 200000 → Speaks version (is_new_line event)
+    → line_read false (at_events version configs pool done) (spaced (event_fields event) [])
+    ≡ Ok (at_events version configs pool (done ++ event ∷ []))
 event_step version event configs pool done fit named room new =
     cc (event_again version event fit new, event_taken event (at_events version configs pool done) named room)
 
-events_again : (version : Version) (events : List Line) (configs : List SessionConfig) (pool : List Reflector) (done : List Line) (number : ℕ) (rest : List ℕ) → AllByRecursion IsEvent events → AreNamed configs events
+events_again : (version : Version) (events : List Line) (configs : List SessionConfig) (pool : List Reflector) (done : List Line)
+    (number : ℕ) (rest : List ℕ) → AllByRecursion IsEvent events → AreNamed configs events
     → AllByRecursion (λ e. Speaks version (is_new_line e)) events → length done + length events ≤ 200000
     → told_from false (at_events version configs pool done) number (lines_of (events_text events ++ rest))
     ≡ told_from false (at_events version configs pool (done ++ events)) (number + length events) (lines_of rest)
@@ -323,14 +366,16 @@ events_again version (event ∷ events) configs pool done number rest fit named 
     cc (
       append_assoc (line (event_fields event)) (events_text events) rest,
       line_taken (at_events version configs pool done) number (event_fields event) (events_text events ++ rest)
-          (lines_again (event_fields event) (events_text events ++ rest) (event_fields_fit event fit.0)) (event_step version event configs pool done fit.0 named.0 (omega arith) new.0),
+          (lines_again (event_fields event) (events_text events ++ rest) (event_fields_fit event fit.0))
+          (event_step version event configs pool done fit.0 named.0 (omega arith) new.0),
       events_again version events configs pool (done ++ event ∷ []) (number + 1) rest fit.1 named.1 new.1 (omega arith),
       (append_assoc done (event ∷ []) events),
     )
 
 -- ---- the whole
 
-version_read : (version : Version) (rest : List ℕ) → told_from false start 1 (lines_of (line (codes "bfd" ∷ version_field version ∷ []) ++ rest))
+version_read : (version : Version) (rest : List ℕ) → told_from false start 1
+    (lines_of (line (codes "bfd" ∷ version_field version ∷ []) ++ rest))
     ≡ told_from false (at_table version []) 2 (lines_of rest)
 version_read One rest = refl
 version_read Two rest = refl
@@ -350,12 +395,14 @@ all_spoken : {X : Type 0} (test : X → Bool) (xs : List X) → AllByRecursion (
 all_spoken test [] = tt
 all_spoken test (x ∷ xs) = (tt, all_spoken test xs)
 
-rows_by : (rows lines : Bool) (cs : List SessionConfig) → list_any is_new_row cs ≡ rows → AllByRecursion (λ c. Speaks (cond (rows || lines) Two One) (is_new_row c)) cs
+rows_by : (rows lines : Bool) (cs : List SessionConfig) → list_any is_new_row cs ≡ rows
+    → AllByRecursion (λ c. Speaks (cond (rows || lines) Two One) (is_new_row c)) cs
 rows_by true lines cs e = all_spoken is_new_row cs
 rows_by false true cs e = all_spoken is_new_row cs
 rows_by false false cs e = none_any is_new_row cs e
 
-events_by : (rows lines : Bool) (es : List Line) → list_any is_new_line es ≡ lines → AllByRecursion (λ e. Speaks (cond (rows || lines) Two One) (is_new_line e)) es
+events_by : (rows lines : Bool) (es : List Line) → list_any is_new_line es ≡ lines
+    → AllByRecursion (λ e. Speaks (cond (rows || lines) Two One) (is_new_line e)) es
 events_by true lines es e = all_spoken is_new_line es
 events_by false true es e = all_spoken is_new_line es
 events_by false false es e = none_any is_new_line es e
@@ -377,8 +424,10 @@ spelled_again version {script} h rows lines =
     cc (
       version_read version (rows_text script.configs ++ after_rows script),
       rows_again version script.configs [] 2 (after_rows script)
-          h.configs.fit h.configs.rows rows (ready [] script.configs tt h.configs.ascends h.configs.differs) (let k = h.configs.few in omega arith),
-      pool_again version script.configs script.pool [] table (after_pool script) h.pool.rows h.apart h.pool.ascends tt (let k = h.few in omega arith),
+          h.configs.fit h.configs.rows rows (ready [] script.configs tt h.configs.ascends h.configs.differs)
+          (let k = h.configs.few in omega arith),
+      pool_again version script.configs script.pool [] table (after_pool script) h.pool.rows h.apart h.pool.ascends tt
+          (let k = h.few in omega arith),
       run_read version script.configs script.pool number (events_text script.events ++ line (codes "end" ∷ [])),
       events_again version script.events script.configs script.pool [] (number + 1) (line (codes "end" ∷ []))
           h.events.lines h.named lines (let k = h.events.few in omega arith),
@@ -388,7 +437,8 @@ spelled_again version {script} h rows lines =
 -- the spelling of a script that the grammar gives spells that script
 script_again : {script : Lists} → IsScript script → script_of false (spelling script) ≡ Ok script
 script_again {script} h =
-    spelled_again (version_of script) h (rows_by (list_any is_new_row script.configs) (list_any is_new_line script.events) script.configs refl)
+    spelled_again (version_of script) h (rows_by (list_any is_new_row script.configs) (list_any is_new_line script.events) script.configs
+    refl)
     (events_by (list_any is_new_row script.configs) (list_any is_new_line script.events) script.events refl)
 
 -- and so does any text that is the spelling

@@ -1,17 +1,22 @@
 -- Lines of fields, written and split again.
-use Rattle.bfd_serve.proofs.SpellingCommon.{◌≡◌, ℕ, ◌+◌, ◌≤◌, ◌==◌, Bool, true, false, List, [], ◌∷◌, ◌++◌, length, Ok, refl, arith, nat_lt, append_assoc, append-nil, length-append, nat_tests, list_all, slice_split, AllByRecursion, Version, entry_in_line, placed, split_fields, is_printable, lines_of, line_text, spaced, line, each_to}
+use Rattle.bfd_serve.proofs.SpellingCommon.{◌≡◌, ℕ, ◌+◌, ◌≤◌, ◌==◌, Bool, true, false, List, [], ◌∷◌, ◌++◌, length, Ok, refl, arith, nat_lt}
+use Rattle.bfd_serve.proofs.SpellingCommon.{append_assoc, append-nil, length-append, nat_tests, list_all, slice_split, AllByRecursion}
+use Rattle.bfd_serve.proofs.SpellingCommon.{Version, entry_in_line, placed, split_fields, is_printable, lines_of, line_text, spaced, line}
+use Rattle.bfd_serve.proofs.SpellingCommon.{each_to}
 use Rattle.bfd_script.specs.declared.line.words.Place.{Place}
 use Rattle.bfd_script.specs.Words.{word_of}
 use Rattle.bfd_serve.proofs.Visible.{IsVisible, IsField}
 
 -- ---- splitting at a separator
 
-pub split_front : (separator : ℕ) (front rest : List ℕ) → AllByRecursion (λ b. (b == separator) ≡ false) front → (separator == separator) ≡ true
+pub split_front : (separator : ℕ) (front rest : List ℕ) → AllByRecursion (λ b. (b == separator) ≡ false) front
+    → (separator == separator) ≡ true
     → slice_split (λ b. b == separator) (front ++ (separator ∷ rest)) ≡ front ∷ slice_split (λ b. b == separator) rest
 split_front separator [] rest all e = rw e refl
 split_front separator (b ∷ front) rest all e = rw (all.0, split_front separator front rest all.1 e) refl
 
-pub split_last : (separator : ℕ) (part : List ℕ) → AllByRecursion (λ b. (b == separator) ≡ false) part → slice_split (λ b. b == separator) part ≡ part ∷ []
+pub split_last : (separator : ℕ) (part : List ℕ) → AllByRecursion (λ b. (b == separator) ≡ false) part
+    → slice_split (λ b. b == separator) part ≡ part ∷ []
 split_last separator [] all = refl
 split_last separator (b ∷ part) all = rw (all.0, split_last separator part all.1) refl
 
@@ -22,13 +27,18 @@ no_lf : (field : List ℕ) → IsField field → AllByRecursion (λ b. (b == 10)
 no_lf field all = each_to field (λ b h. let low = h.above in grind (arith, nat_tests)) all
 
 -- the fields of spaced fields
-fields_again : (field : List ℕ) (fields : List (List ℕ)) → AllByRecursion IsField (field ∷ fields) → split_fields (spaced (field ∷ fields) []) ≡ field ∷ fields
+fields_again : (field : List ℕ) (fields : List (List ℕ)) → AllByRecursion IsField (field ∷ fields)
+    → split_fields (spaced (field ∷ fields) []) ≡ field ∷ fields
 fields_again field [] all = cc (append-nil field, split_last 32 field (no_space field all.0))
-fields_again field (next ∷ fields) all = cc (split_front 32 field (spaced (next ∷ fields) []) (no_space field all.0) refl, fields_again next fields all.1)
+fields_again field (next ∷ fields) all = cc (
+  split_front 32 field (spaced (next ∷ fields) []) (no_space field all.0) refl,
+  fields_again next fields all.1,
+)
 
 -- ---- lines
 
-line_front : (front rest : List ℕ) {first : List ℕ} {lines : List (List ℕ)} → AllByRecursion (λ b. (b == 10) ≡ false) front → lines_of rest ≡ first ∷ lines
+line_front : (front rest : List ℕ) {first : List ℕ} {lines : List (List ℕ)} → AllByRecursion (λ b. (b == 10) ≡ false) front
+    → lines_of rest ≡ first ∷ lines
     → lines_of (front ++ rest) ≡ (front ++ first) ∷ lines
 line_front [] rest all e = e
 line_front (b ∷ front) rest all e = rw (all.0, line_front front rest all.1 e) refl
@@ -36,16 +46,21 @@ line_front (b ∷ front) rest all e = rw (all.0, line_front front rest all.1 e) 
 spaced_more : (fields : List (List ℕ)) (end rest : List ℕ) → spaced fields end ++ rest ≡ spaced fields (end ++ rest)
 spaced_more [] end rest = refl
 spaced_more (field ∷ []) end rest = append_assoc field end rest
-spaced_more (field ∷ next ∷ fields) end rest = cc (append_assoc field (32 ∷ spaced (next ∷ fields) end) rest, spaced_more (next ∷ fields) end rest)
+spaced_more (field ∷ next ∷ fields) end rest = cc (
+  append_assoc field (32 ∷ spaced (next ∷ fields) end) rest,
+  spaced_more (next ∷ fields) end rest,
+)
 
-lines_spaced : (fields : List (List ℕ)) (rest : List ℕ) → AllByRecursion IsField fields → lines_of (spaced fields (10 ∷ rest)) ≡ spaced fields [] ∷ lines_of rest
+lines_spaced : (fields : List (List ℕ)) (rest : List ℕ) → AllByRecursion IsField fields
+    → lines_of (spaced fields (10 ∷ rest)) ≡ spaced fields [] ∷ lines_of rest
 lines_spaced [] rest all = refl
 lines_spaced (field ∷ []) rest all = line_front field (10 ∷ rest) {first = []} (no_lf field all.0) refl
 lines_spaced (field ∷ next ∷ fields) rest all = line_front field (32 ∷ spaced (next ∷ fields) (10 ∷ rest)) (no_lf field all.0)
     (cc (lines_spaced (next ∷ fields) rest all.1))
 
 -- the first line of a text that begins with a line of fields
-pub lines_again : (fields : List (List ℕ)) (rest : List ℕ) → AllByRecursion IsField fields → lines_of (line fields ++ rest) ≡ spaced fields [] ∷ lines_of rest
+pub lines_again : (fields : List (List ℕ)) (rest : List ℕ) → AllByRecursion IsField fields
+    → lines_of (line fields ++ rest) ≡ spaced fields [] ∷ lines_of rest
 lines_again fields rest all = cc (spaced_more fields (10 ∷ []) rest, lines_spaced fields rest all)
 
 -- ---- the tests of a line
@@ -74,13 +89,15 @@ length_spaced (field ∷ next ∷ fields) =
     let e = length-append field (32 ∷ spaced (next ∷ fields) []) in
     let k = length_spaced (next ∷ fields) in omega arith
 
-text_again : (fields : List (List ℕ)) → AllByRecursion IsField fields → total fields ≤ 4096 → line_text (spaced fields []) ≡ Ok (spaced fields [])
+text_again : (fields : List (List ℕ)) → AllByRecursion IsField fields → total fields ≤ 4096
+    → line_text (spaced fields []) ≡ Ok (spaced fields [])
 text_again fields all few =
     let k = length_spaced fields in
     let short : nat_lt 4096 (length (spaced fields [])) ≡ false = grind (arith, nat_tests) in
     rw (short, line_prints fields all) refl
 
 -- what a line of fields says
-pub entry_again : (version : Version) (place : Place) (live : Bool) (field : List ℕ) (fields : List (List ℕ)) → AllByRecursion IsField (field ∷ fields) → total (field ∷ fields) ≤ 4096
+pub entry_again : (version : Version) (place : Place) (live : Bool) (field : List ℕ) (fields : List (List ℕ))
+    → AllByRecursion IsField (field ∷ fields) → total (field ∷ fields) ≤ 4096
     → entry_in_line version place live (spaced (field ∷ fields) []) ≡ placed version place live (word_of version field) fields
 entry_again version place live field fields all few = cc (text_again (field ∷ fields) all few, fields_again field fields all)

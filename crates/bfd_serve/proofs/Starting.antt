@@ -1,8 +1,10 @@
 -- A shard made anew.
-use Rattle.bfd_serve.proofs.ServedTextCommon.{◌≡◌, ℕ, List, [], ◌++◌, append_assoc, SessionConfig, Entry, IsHistory, entries_text, shard_line, events_of}
+use Rattle.bfd_serve.proofs.ServedTextCommon.{◌≡◌, ℕ, List, [], ◌++◌, append_assoc, SessionConfig, Entry, IsHistory, entries_text}
+use Rattle.bfd_serve.proofs.ServedTextCommon.{shard_line, events_of}
 
 -- a history of shards with these configurations
-pub history_same : {cs own : List SessionConfig} {js ks : List Entry} → own ≡ cs → ks ≡ js → IsHistory cs (events_of js) → IsHistory own (events_of ks)
+pub history_same : {cs own : List SessionConfig} {js ks : List Entry} → own ≡ cs → ks ≡ js → IsHistory cs (events_of js)
+    → IsHistory own (events_of ks)
 history_same configs journal h = rw journal (rw configs h)
 
 -- the text of a shard is its number and its entries

@@ -8,9 +8,11 @@ use Rattle.bfd_script.specs.Sound.{IsScript}
 use Rattle.bfd_script.proofs.Faults as script
 
 -- the table of a script has no fault
-pub no_fault : (configs : List SessionConfig) (pool : List Reflector) (events : List Line) → IsScript (script_with configs pool events) → build_fault (table_of configs pool) ≡ None
+pub no_fault : (configs : List SessionConfig) (pool : List Reflector) (events : List Line) → IsScript (script_with configs pool events)
+    → build_fault (table_of configs pool) ≡ None
 no_fault configs pool events s = script.no_fault _ pool s.configs s.pool s.apart s.few
 
 -- its sessions and reflectors stand in order
-pub sorted : (configs : List SessionConfig) (pool : List Reflector) (events : List Line) → IsScript (script_with configs pool events) → IsSorted configs pool
+pub sorted : (configs : List SessionConfig) (pool : List Reflector) (events : List Line) → IsScript (script_with configs pool events)
+    → IsSorted configs pool
 sorted configs pool events s = ordered.sorted configs pool s.configs.ascends s.pool.ascends

@@ -1,5 +1,7 @@
 -- Links that are each the one that was opened by its number.
-use Rattle.bfd_serve.proofs.RunCommon.{◌≡◌, ℕ, zero, suc, ◌+◌, ◌≤◌, List, [], ◌∷◌, ◌++◌, length, get_or, ap, sym, ◌∙◌, arith, get_or_default, dite, dec_lt, nat_tests, false, true, Some, ◌==◌, PortsTold, LinkTold, TickerTold, Line, Shards, Knows, End, Limits, AreTheirs}
+use Rattle.bfd_serve.proofs.RunCommon.{◌≡◌, ℕ, zero, suc, ◌+◌, ◌≤◌, List, [], ◌∷◌, ◌++◌, length, get_or, ap, sym, ◌∙◌, arith}
+use Rattle.bfd_serve.proofs.RunCommon.{get_or_default, dite, dec_lt, nat_tests, false, true, Some, ◌==◌, PortsTold, LinkTold, TickerTold}
+use Rattle.bfd_serve.proofs.RunCommon.{Line, Shards, Knows, End, Limits, AreTheirs}
 use Rattle.std.proofs.Math.Seq.{get_or-append_seam}
 use Rattle.std.proofs.lemmas.List.{get_or_append_left}
 use Rattle.std.proofs.Common.{length-append}
@@ -18,7 +20,8 @@ module _ {L : Type 0} (told : L → LinkTold) {own : L} where
       at (suc n) h = absurd (omega arith)
 
   -- one link more
-  pub theirs_more : (links : List L) (link : L) → AreTheirs told own links → (told link).number ≡ length links + 1 → AreTheirs told own (links ++ link ∷ [])
+  pub theirs_more : (links : List L) (link : L) → AreTheirs told own links → (told link).number ≡ length links + 1
+      → AreTheirs told own (links ++ link ∷ [])
   theirs_more links link theirs is = record { at = at }
     where
       at : (n : ℕ) → n ≤ length (links ++ link ∷ []) → (told (get_or (own ∷ (links ++ link ∷ [])) n own)).number ≡ n
@@ -30,7 +33,8 @@ module _ {L : Type 0} (told : L → LinkTold) {own : L} where
           ap (λ x. (told x).number) (get_last links link m own e) ∙ (is ∙ f))
 
   -- the link behind so many others is the one of the next number
-  pub next_number : (gone rest links : List L) (link : L) {n : ℕ} → AreTheirs told own links → gone ++ link ∷ rest ≡ links → n ≡ length gone + 1 → (told link).number ≡ n
+  pub next_number : (gone rest links : List L) (link : L) {n : ℕ} → AreTheirs told own links → gone ++ link ∷ rest ≡ links
+      → n ≡ length gone + 1 → (told link).number ≡ n
   next_number gone rest links link theirs all is =
       let inside : suc (length gone) ≤ length links = omega (arith, ap length all, length-append gone (link ∷ rest)) in
       let e : suc (length gone) ≡ length gone + 1 = omega arith in
@@ -38,18 +42,22 @@ module _ {L : Type 0} (told : L → LinkTold) {own : L} where
       ∙ (theirs.at (suc (length gone)) inside ∙ (e ∙ sym is))
 
   -- the same links, where the first one tells the same
-  pub theirs_same : {own2 : L} (links back : List L) → told own2 ≡ told own → back ≡ links → AreTheirs told own links → AreTheirs told own2 back
+  pub theirs_same : {own2 : L} (links back : List L) → told own2 ≡ told own → back ≡ links → AreTheirs told own links
+      → AreTheirs told own2 back
   theirs_same {own2} links back told_same same theirs = record { at = at }
     where
       at : (n : ℕ) → n ≤ length back → (told (get_or (own2 ∷ back) n own2)).number ≡ n
       at zero h = ap (λ t. t.number) told_same ∙ theirs.at zero (omega arith)
       at (suc m) h =
           let inside : suc m ≤ length links = omega (arith, h, ap length same) in
-          ap (λ xs. (told (get_or xs m own2)).number) same ∙ (ap (λ x. (told x).number) (get_or_default links m own2 own (omega (arith, inside))) ∙ theirs.at (suc m) inside)
+          ap (λ xs. (told (get_or xs m own2)).number) same
+          ∙ (ap (λ x. (told x).number) (get_or_default links m own2 own (omega (arith, inside))) ∙ theirs.at (suc m) inside)
 
   -- the links after a run
-  pub theirs_after : (own2 : L) {engine : Shards} {l : Knows} {c d : TickerTold} {orders : List Line} {limits : Limits} (links back : List L) {ends : List End} {lost : ℕ}
-      → HasServed told engine l (told own) (told own2) c d orders limits links back ends lost → AreTheirs told own links → AreTheirs told own2 back
+  pub theirs_after : (own2 : L) {engine : Shards} {l : Knows} {c d : TickerTold} {orders : List Line} {limits : Limits}
+      (links back : List L) {ends : List End} {lost : ℕ}
+      → HasServed told engine l (told own) (told own2) c d orders limits links back ends lost → AreTheirs told own links
+      → AreTheirs told own2 back
   theirs_after own2 links back served theirs = record { at = at }
     where
       at : (n : ℕ) → n ≤ length back → (told (get_or (own2 ∷ back) n own2)).number ≡ n
@@ -57,7 +65,8 @@ module _ {L : Type 0} (told : L → LinkTold) {own : L} where
       at (suc m) h =
           let inside : suc m ≤ length links = (let long = served.back_long in omega (arith, h, long)) in
           let worker = served.workers m own Ended 0 (omega (arith, inside)) in
-          ap (λ x. (told x).number) (get_or_default back m own2 own (omega (arith, h))) ∙ (worker.worked.did.same_link ∙ theirs.at (suc m) inside)
+          ap (λ x. (told x).number) (get_or_default back m own2 own (omega (arith, h)))
+          ∙ (worker.worked.did.same_link ∙ theirs.at (suc m) inside)
 
   -- one link more is shut
   pub shut_more : (gone : List L) (link : L) {number : ℕ} {p q : PortsTold} → q ≡ after_shut number (told link) p → number ≡ length gone + 1
@@ -68,7 +77,8 @@ module _ {L : Type 0} (told : L → LinkTold) {own : L} where
       ap (λ (r : PortsTold). r.shut zero) is ∙ rw other (before zero (omega arith))
   shut_more gone link {number} is count before (suc m) h = dite (dec_lt m (length gone))
       (λ less. let other : (suc m == number) ≡ false = grind (arith, nat_tests, less, count) in
-      ap (λ (r : PortsTold). r.shut (suc m)) is ∙ rw other (before (suc m) (omega (arith, less)) ∙ ap (λ x. Some (told x)) (sym (get_or_append_left gone (link ∷ []) own m less))))
+      ap (λ (r : PortsTold). r.shut (suc m)) is ∙ rw other
+      (before (suc m) (omega (arith, less)) ∙ ap (λ x. Some (told x)) (sym (get_or_append_left gone (link ∷ []) own m less))))
       (λ last. let e : m ≡ length gone = omega (arith, last, h, length-append gone (link ∷ [])) in
       let here : (suc m == number) ≡ true = grind (arith, nat_tests, e, count) in
       ap (λ (r : PortsTold). r.shut (suc m)) is ∙ rw here (ap (λ x. Some (told x)) (sym (get_last gone link m own e))))

@@ -1,5 +1,6 @@
 -- The bytes that a field may have.
-use Rattle.bfd_serve.proofs.SpellingCommon.{◌≡◌, ℕ, ◌≤◌, Bool, true, ◌&&◌, List, [], ◌∷◌, arith, nat_lt, nat_tests, list_all, AllByRecursion, and_parts}
+use Rattle.bfd_serve.proofs.SpellingCommon.{◌≡◌, ℕ, ◌≤◌, Bool, true, ◌&&◌, List, [], ◌∷◌, arith, nat_lt, nat_tests, list_all}
+use Rattle.bfd_serve.proofs.SpellingCommon.{AllByRecursion, and_parts}
 
 -- a byte that a field may have
 pub record IsVisible (byte : ℕ) : Type 0 where

@@ -1,5 +1,8 @@
 -- How many turns on one shard some acts can take.
-use Rattle.bfd_serve.proofs.Common.{◌≡◌, ◌≢◌, zero, suc, ◌+◌, ◌≤◌, ◌==◌, Bool, true, false, length, take, drop, refl, ap, ◌∙◌, le_refl, length-append, arith, length-map, take-append-drop, dite, ℕ_discrete, nat_tests, Arrival, ShardEvent, Line, Shards, Act, Turns, Rests, act_at, worker_acts, orders_due, order_act, orders_acts, advances, tick_acts, ticks_acts, orders_left, timer_acts, ℕ, List, [], ◌∷◌}
+use Rattle.bfd_serve.proofs.Common.{◌≡◌, ◌≢◌, zero, suc, ◌+◌, ◌≤◌, ◌==◌, Bool, true, false, length, take, drop, refl, ap, ◌∙◌, le_refl}
+use Rattle.bfd_serve.proofs.Common.{length-append, arith, length-map, take-append-drop, dite, ℕ_discrete, nat_tests, Arrival, ShardEvent}
+use Rattle.bfd_serve.proofs.Common.{Line, Shards, Act, Turns, Rests, act_at, worker_acts, orders_due, order_act, orders_acts, advances}
+use Rattle.bfd_serve.proofs.Common.{tick_acts, ticks_acts, orders_left, timer_acts, ℕ, List, [], ◌∷◌}
 use Rattle.bfd_shard.specs.declared.entry.ShardEvent.TheVariants.{Tick as TickEvent}
 use Rattle.bfd_serve.proofs.Histories.{weight, weight_append}
 
@@ -21,7 +24,8 @@ module _ (n s : ℕ) where
 
   advances_none : (m t : ℕ) → m ≤ s → weight n s (advances m t) ≡ 0
   advances_none zero t h = refl
-  advances_none (suc m) t h = let a = advances_none m t (omega arith) in let b = turn_elsewhere m (TickEvent t) (λ e. absurd (omega arith)) in weight_append n s (advances m t) (Turns m (TickEvent t) ∷ []) ∙ (omega arith)
+  advances_none (suc m) t h = let a = advances_none m t (omega arith) in let b = turn_elsewhere m (TickEvent t)
+      (λ e. absurd (omega arith)) in weight_append n s (advances m t) (Turns m (TickEvent t) ∷ []) ∙ (omega arith)
 
   advances_weight : (m t : ℕ) → weight n s (advances m t) ≤ 1
   advances_weight zero t = omega arith
@@ -37,12 +41,29 @@ module _ (n s : ℕ) where
     orders_weight : (orders : List Line) → weight n s (orders_acts engine orders) ≤ length orders
     orders_weight orders = omega (arith, acts_weight (orders_acts engine orders), length-map orders (order_act engine))
 
-    ticks_weight : (orders : List Line) (ts : List ℕ) → weight n s (ticks_acts engine orders ts) + length (orders_left orders ts) ≤ length ts + length orders
+    ticks_weight : (orders : List Line) (ts : List ℕ)
+        → weight n s (ticks_acts engine orders ts) + length (orders_left orders ts) ≤ length ts + length orders
     ticks_weight orders [] = omega arith
     ticks_weight orders (t ∷ ts) =
-        let first : List Line = take (orders_due t orders) orders in let rest : List Line = drop (orders_due t orders) orders in omega (arith, orders_weight first, advances_weight (length engine.locks) t, weight_append n s (orders_acts engine first) (advances (length engine.locks) t), weight_append n s (tick_acts engine orders t) (ticks_acts engine rest ts), ticks_weight rest ts, ap length (take-append-drop (orders_due t orders) orders), length-append first rest)
+        let first : List Line = take (orders_due t orders) orders in let rest : List Line = drop (orders_due t orders) orders in
+        omega (
+          arith,
+          orders_weight first,
+          advances_weight (length engine.locks) t,
+          weight_append n s (orders_acts engine first) (advances (length engine.locks) t),
+          weight_append n s (tick_acts engine orders t) (ticks_acts engine rest ts),
+          ticks_weight rest ts,
+          ap length (take-append-drop (orders_due t orders) orders),
+          length-append first rest,
+        )
 
     -- the timer takes at most one turn for each tick and each order
-    pub timer_weight : (orders : List Line) (ts : List ℕ) (failed : Bool) → weight n s (timer_acts engine orders ts failed) ≤ length ts + length orders
+    pub timer_weight : (orders : List Line) (ts : List ℕ) (failed : Bool)
+        → weight n s (timer_acts engine orders ts failed) ≤ length ts + length orders
     timer_weight orders ts true = omega (arith, ticks_weight orders ts, weight_append n s (ticks_acts engine orders ts) [])
-    timer_weight orders ts false = omega (arith, ticks_weight orders ts, weight_append n s (ticks_acts engine orders ts) (orders_acts engine (orders_left orders ts)), orders_weight (orders_left orders ts))
+    timer_weight orders ts false = omega (
+      arith,
+      ticks_weight orders ts,
+      weight_append n s (ticks_acts engine orders ts) (orders_acts engine (orders_left orders ts)),
+      orders_weight (orders_left orders ts),
+    )

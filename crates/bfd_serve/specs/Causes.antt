@@ -17,11 +17,13 @@ use Rattle.bfd_serve.specs.declared.run.finish.Finish.{Finish}
 use Rattle.bfd_serve.specs.declared.run.finish.Finish.TheVariants.{Done, LinkFault, ClockFault, JournalFull, Turns}
 use Rattle.bfd_serve.specs.Runs.{HaveRun, all_on}
 
-module _ (engine : Shards) (histories : ℕ → List Entry) (orders : List Line) (workers : ℕ) (limits : Limits) (before after : ℕ → LinkTold) (c d : TickerTold) (ends : List End) (lost : ℕ)
+module _ (engine : Shards) (histories : ℕ → List Entry) (orders : List Line) (workers : ℕ) (limits : Limits) (before after : ℕ → LinkTold)
+    (c d : TickerTold) (ends : List End) (lost : ℕ)
     (run : HaveRun engine histories orders workers limits before after c d ends lost) where
   -- every link of a worker and the ticker ended, or it gave its limit of ticks, and no call of any caller is left out
   pub record IsRunDone : Type 0 where
-    pub links : (number : ℕ) → 0 < number → number ≤ workers → ((after number).counts.over ≡ true) × ((after number).counts.receive_faults ≡ 0)
+    pub links : (number : ℕ) → 0 < number → number ≤ workers → ((after number).counts.over ≡ true)
+        × ((after number).counts.receive_faults ≡ 0)
     pub ticker : (d.over ≡ true) ⊎ (d.gave ≡ risen c.gave limits.ticks)
     pub faults : d.faults ≡ c.faults
     pub timer : run.timer.did.cut ≡ []

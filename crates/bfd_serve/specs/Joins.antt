@@ -51,7 +51,8 @@ pub record AreJoined (k : Knows) (passes : List Knows) (l : Knows) (shard : ℕ)
   pub kept : kept_at l shard ≡ kept_at k shard ++ calls_kept shard passes
   pub first : Begins (seen_at k shard) (seen_at l shard)
   pub each : All (λ pass. Begins (seen_at pass shard) (seen_at l shard)) passes
-  pub least : (h : List Entry) → Begins (seen_at k shard) h → All (λ pass. Begins (seen_at pass shard) h) passes → Begins (seen_at l shard) h
+  pub least : (h : List Entry) → Begins (seen_at k shard) h → All (λ pass. Begins (seen_at pass shard) h) passes
+      → Begins (seen_at l shard) h
   pub word : met_word k shard ≤ met_word l shard
   pub words : All (λ pass. met_word pass shard ≤ met_word l shard) passes
   pub taken : taken_at l shard ≡ taken_at k shard + sum_by (λ pass. taken_at pass shard) passes

@@ -40,19 +40,22 @@ told_on_link told own links number = told (slice_index_or (own ∷ links) number
 
 -- what the timer did: of all that it had to do at the ticks that its ticker gave, the entries of caller 0 in the histories are,
 -- shard by shard, those of its calls, without those that Full left out
-pub record TimerRan (engine : Shards) (histories : ℕ → List Entry) (t u : LinkTold) (c d : TickerTold) (orders : List Line) (ticks : ℕ) (end : End) (missing : ℕ) : Type 0 where
+pub record TimerRan (engine : Shards) (histories : ℕ → List Entry) (t u : LinkTold) (c d : TickerTold) (orders : List Line) (ticks : ℕ)
+    (end : End) (missing : ℕ) : Type 0 where
   pub own : ℕ → List Entry
   pub own_is : (shard : ℕ) → shard < length engine.locks → calls by 0 (histories shard) ≡ own shard
   pub did : TimerDid engine own histories no_words t u c d orders ticks end missing
 
 -- the same of the worker of this number, by the arrivals that its link gave
-pub record WorkerRan (engine : Shards) (histories : ℕ → List Entry) (number : ℕ) (t u : LinkTold) (turns : ℕ) (end : End) (missing : ℕ) : Type 0 where
+pub record WorkerRan (engine : Shards) (histories : ℕ → List Entry) (number : ℕ) (t u : LinkTold) (turns : ℕ) (end : End)
+    (missing : ℕ) : Type 0 where
   pub own : ℕ → List Entry
   pub own_is : (shard : ℕ) → shard < length engine.locks → calls by number (histories shard) ≡ own shard
   pub did : WorkerDid engine number own histories no_words t u turns end missing
 
 -- what all did, where the links told `before` and then `after`, by number. No entry names anyone else
-pub record HaveRun (engine : Shards) (histories : ℕ → List Entry) (orders : List Line) (workers : ℕ) (limits : Limits) (before after : ℕ → LinkTold) (c d : TickerTold) (ends : List End) (lost : ℕ) : Type 0 where
+pub record HaveRun (engine : Shards) (histories : ℕ → List Entry) (orders : List Line) (workers : ℕ) (limits : Limits)
+    (before after : ℕ → LinkTold) (c d : TickerTold) (ends : List End) (lost : ℕ) : Type 0 where
   pub timer_end : End
   pub timer_missing : ℕ
   pub timer : TimerRan engine histories (before 0) (after 0) c d orders limits.ticks timer_end timer_missing
@@ -62,7 +65,8 @@ pub record HaveRun (engine : Shards) (histories : ℕ → List Entry) (orders : 
   pub ends_long : length worker_ends ≡ workers
   pub missing_long : length missing ≡ workers
   pub each : (at : ℕ) → at < workers
-      → WorkerRan engine histories (at + 1) (before (at + 1)) (after (at + 1)) limits.turns (slice_index_or worker_ends at Ended) (slice_index_or missing at 0)
+      → WorkerRan engine histories (at + 1) (before (at + 1)) (after (at + 1)) limits.turns (slice_index_or worker_ends at Ended)
+      (slice_index_or missing at 0)
   pub others : (number shard : ℕ) → shard < length engine.locks → workers < number → calls by number (histories shard) ≡ []
   pub lost_is : lost ≡ risen 0 (timer_missing + sum missing)
 

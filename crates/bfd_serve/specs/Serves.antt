@@ -19,15 +19,18 @@ use Rattle.bfd_serve.specs.Orders.{timer_acts}
 use Rattle.bfd_serve.specs.Ticks.{IsTimerEnd, is_clock_fault, more_given, HasTimed}
 
 -- the timer, with what each call asks of a pass
-pub record IsTended (engine : Shards) (k l : Knows) (t u : LinkTold) (c d : TickerTold) (orders : List Line) (ticks : ℕ) (end : End) (lost : ℕ) : Type 0 where
+pub record IsTended (engine : Shards) (k l : Knows) (t u : LinkTold) (c d : TickerTold) (orders : List Line) (ticks : ℕ) (end : End)
+    (lost : ℕ) : Type 0 where
   pub of : IsOf engine l.1
   pub there : AllThere l.1
   pub timed : HasTimed engine k l t u c d orders ticks end lost
 
 -- what a caller's acts `done` left on each shard, where in the end the shards have these histories: its own entries there are
--- exactly those of their calls. What they send was sent in order on its link, which is the same in the end, but for those that failed and for the last ones
+-- exactly those of their calls. What they send was sent in order on its link, which is the same in the end, but for those that failed and
+-- for the last ones
 -- that weren't tried
-pub record HasDone (engine : Shards) (caller : ℕ) (own histories : ℕ → List Entry) (t u : LinkTold) (heard : List (ℕ × Arrival)) (done : List Act) (untried : List Datagram) (lost : ℕ) : Type 0 where
+pub record HasDone (engine : Shards) (caller : ℕ) (own histories : ℕ → List Entry) (t u : LinkTold) (heard : List (ℕ × Arrival))
+    (done : List Act) (untried : List Datagram) (lost : ℕ) : Type 0 where
   pub gains : (shard : ℕ) → own shard ≡ entries caller shard (calls_of done)
   pub tried : List Datagram
   pub kept : List Datagram
@@ -41,7 +44,8 @@ pub record HasDone (engine : Shards) (caller : ℕ) (own histories : ℕ → Lis
 
 -- what a worker did: of the arrivals that its link gave, those of `done` were handled, and those of `cut` were not. The link gave
 -- `turned` answers, some of them Quiet
-pub record WorkerDid (engine : Shards) (caller : ℕ) (own histories : ℕ → List Entry) (words : ℕ → ℕ) (t u : LinkTold) (turns : ℕ) (end : End) (lost : ℕ) : Type 0 where
+pub record WorkerDid (engine : Shards) (caller : ℕ) (own histories : ℕ → List Entry) (words : ℕ → ℕ) (t u : LinkTold) (turns : ℕ)
+    (end : End) (lost : ℕ) : Type 0 where
   pub done : List (ℕ × Arrival)
   pub cut : List (ℕ × Arrival)
   pub untried : List Datagram
@@ -54,7 +58,8 @@ pub record WorkerDid (engine : Shards) (caller : ℕ) (own histories : ℕ → L
 
 -- what the timer did: of all that it had to do at the ticks that its ticker gave, the acts of `done` were done, and those of
 -- `cut` were not
-pub record TimerDid (engine : Shards) (own histories : ℕ → List Entry) (words : ℕ → ℕ) (t u : LinkTold) (c d : TickerTold) (orders : List Line) (ticks : ℕ) (end : End) (lost : ℕ) : Type 0 where
+pub record TimerDid (engine : Shards) (own histories : ℕ → List Entry) (words : ℕ → ℕ) (t u : LinkTold) (c d : TickerTold)
+    (orders : List Line) (ticks : ℕ) (end : End) (lost : ℕ) : Type 0 where
   pub got : List ℕ
   pub done : List Act
   pub cut : List Act
@@ -77,7 +82,8 @@ module _ {L : Type 0} (told : L → LinkTold) (engine : Shards) where
 
   -- what all did, by the pass l of caller 0 in the end: its own calls are the timer's, and it keeps the calls of each worker and
   -- of nobody else. Every pass that was made was joined
-  pub record HasServed (l : Knows) (t u : LinkTold) (c d : TickerTold) (orders : List Line) (limits : Limits) (links back : List L) (ends : List End) (lost : ℕ) : Type 0 where
+  pub record HasServed (l : Knows) (t u : LinkTold) (c d : TickerTold) (orders : List Line) (limits : Limits) (links back : List L)
+      (ends : List End) (lost : ℕ) : Type 0 where
     pub own : ℕ → List Entry
     pub own_is : (shard : ℕ) → shard < length engine.locks → mine l shard ≡ own shard
     pub timer_end : End
@@ -93,5 +99,6 @@ module _ {L : Type 0} (told : L → LinkTold) (engine : Shards) where
     pub kept_long : (shard : ℕ) → shard < length engine.locks → length (kept_at l shard) ≡ length links
     pub made : (shard : ℕ) → shard < length engine.locks → made_at l shard ≡ numbers_of (kept_at l shard)
     pub workers : (at : ℕ) (link : L) (end : End) (missing : ℕ) → at < length links
-        → IsServedBy l limits.turns at (slice_index_or links at link) (slice_index_or back at link) (slice_index_or worker_ends at end) (slice_index_or worker_losts at missing)
+        → IsServedBy l limits.turns at (slice_index_or links at link) (slice_index_or back at link) (slice_index_or worker_ends at end)
+        (slice_index_or worker_losts at missing)
     pub taken : (shard : ℕ) → shard < length engine.locks → taken_at l shard ≤ (limits.ticks + length orders) + length links * limits.turns

@@ -44,7 +44,8 @@ is_clock_fault Memory = false
 
 -- what the timer did: of all that it had to do at the ticks that its ticker gave in this run, the acts of `done` were done, and
 -- those of `cut`, of which there are none but after Full, Spent or Memory, were not
-pub record HasTimed (engine : Shards) (k l : Knows) (t u : LinkTold) (c d : TickerTold) (orders : List Line) (ticks : ℕ) (end : End) (lost : ℕ) : Type 0 where
+pub record HasTimed (engine : Shards) (k l : Knows) (t u : LinkTold) (c d : TickerTold) (orders : List Line) (ticks : ℕ) (end : End)
+    (lost : ℕ) : Type 0 where
   pub got : List ℕ
   pub done : List Act
   pub cut : List Act
@@ -58,7 +59,8 @@ pub record HasTimed (engine : Shards) (k l : Knows) (t u : LinkTold) (c d : Tick
   pub ends : IsTimerEnd engine (seen_at l) (met_word l) c d got ticks cut untried end
 
 -- the same after so many ticks, with no end, where these orders are left
-pub record IsTicking (engine : Shards) (k l : Knows) (t u : LinkTold) (c d : TickerTold) (orders left : List Line) (count : ℕ) (lost : ℕ) : Type 0 where
+pub record IsTicking (engine : Shards) (k l : Knows) (t u : LinkTold) (c d : TickerTold) (orders left : List Line) (count : ℕ)
+    (lost : ℕ) : Type 0 where
   pub got : List ℕ
   pub whole : IsWhole engine (ticks_acts engine orders got) k l t u 0 lost
   pub left_is : left ≡ orders_left orders got

@@ -19,7 +19,8 @@ use Rattle.bfd_serve.specs.Entered.{AreTimely, AreJudged}
 -- a run of a script: its engine, the link of each caller, which was opened by its number, from its opening to its shutting, and what
 -- all did, to the text; each tick in a
 -- shard's history expired exactly the sessions whose Detection Time had come, and each packet in it was judged by all tests
-pub record HasRun (script : Lists) (shards workers journal : ℕ) (limits : Limits) (q : PortsTold) (c d : TickerTold) (states : List Shard) (text : List ℕ) (lost : ℕ) (finish : Finish) : Type 0 where
+pub record HasRun (script : Lists) (shards workers journal : ℕ) (limits : Limits) (q : PortsTold) (c d : TickerTold) (states : List Shard)
+    (text : List ℕ) (lost : ℕ) (finish : Finish) : Type 0 where
   pub engine : Shards
   pub opened : IsOpened engine script shards journal
   pub closed : AreClosedShards engine states

@@ -45,9 +45,11 @@ IsSentAfter (Ok answer) outs t u lost after (Err end) =
     (untried : List Datagram) × HasSent (datagrams outs) untried t u lost after × (end ≡ Memory) × (0 < length untried)
 
 -- a caller's pass k became l by the acts `done`, and its link told t and then u. What it gained on each shard are exactly the
--- entries of their calls, and it is the same link. What they send was sent in order, but for those that failed and for the last ones that weren't
+-- entries of their calls, and it is the same link. What they send was sent in order, but for those that failed and for the last ones that
+-- weren't
 -- tried. Of the acts `cut` no call was made
-pub record Did (engine : Shards) (k l : Knows) (t u : LinkTold) (heard : List (ℕ × Arrival)) (done cut : List Act) (untried : List Datagram) (lost after : ℕ) : Type 0 where
+pub record Did (engine : Shards) (k l : Knows) (t u : LinkTold) (heard : List (ℕ × Arrival)) (done cut : List Act) (untried : List Datagram)
+    (lost after : ℕ) : Type 0 where
   pub number : l.0 ≡ k.0
   pub used : l.2 ≡ k.2
   pub gains : (shard : ℕ) → mine l shard ≡ mine k shard ++ entries k.0 shard (calls_of done)
@@ -134,7 +136,8 @@ IsWorkerEnd engine histories words t u turned turns cut untried (TurnsMade n) =
 IsWorkerEnd engine histories words t u turned turns cut untried (Full shard n) =
     (u.counts.over ≡ false) × (u.counts.receive_faults ≡ t.counts.receive_faults) × Stops engine histories words cut untried (Full shard n)
 IsWorkerEnd engine histories words t u turned turns cut untried (Spent shard word) =
-    (u.counts.over ≡ false) × (u.counts.receive_faults ≡ t.counts.receive_faults) × Stops engine histories words cut untried (Spent shard word)
+    (u.counts.over ≡ false) × (u.counts.receive_faults ≡ t.counts.receive_faults)
+    × Stops engine histories words cut untried (Spent shard word)
 IsWorkerEnd engine histories words t u turned turns cut untried Memory =
     (u.counts.over ≡ false) × (u.counts.receive_faults ≡ t.counts.receive_faults) × ((0 < length cut + length untried) ⊎ (turned < turns))
 IsWorkerEnd engine histories words t u turned turns cut untried ClockFault = ⊥

@@ -5,6 +5,7 @@ ghost use Rattle.bfd_engine.specs.Engines.{IsOf, AllThere, configs_at};
 ghost use Rattle.bfd_engine.specs.Calls.{IsDone, Turns, arrival_act};
 ghost use Rattle.bfd_serve.specs.Orders.{order_act};
 ghost use Rattle.bfd_serve.specs.Works.{AreDone, HasRoom};
+ghost use Rattle.bfd_num.specs.Counting.{IsBlankOf};
 
 use crate::ending::End;
 use crate::sending::settle;
@@ -30,9 +31,7 @@ fn receive<W: Timers, R: Wait, S: Ledger>(
     outs: &mut Outs,
     blank: Blank,
 ) -> Result<Answer, EngineFault>
-    requires name { blank.name ≡ S.name }
-    requires parts { blank.parts ≡ S.parts }
-    requires some { 0 < blank.parts }
+    requires blank { IsBlankOf S.name S.parts blank.name blank.parts }
     requires of { IsOf engine.now pass.old.1 }
     requires there { AllThere pass.old.1 }
     requires room { 5 ≤ outs.old.spare }
@@ -45,7 +44,7 @@ fn receive<W: Timers, R: Wait, S: Ledger>(
     engine.receive(rt, pass, moment, arrival, outs, &mut Steps::<S>::new(blank))
 }
 
-/// Hands an arrival to the engine, and sends what it puts out.
+/// Hands an arrival to the engine, and sends what it emits.
 #[tactic(auto, using(crate::proofs::Doing::done_one))]
 pub(crate) fn handle<W: Timers, L: Link, R: Wait>(
     rt: &R,
@@ -71,7 +70,7 @@ pub(crate) fn handle<W: Timers, L: Link, R: Wait>(
     settle(outcome, link, outs.items(), lost)
 }
 
-/// Gives an order to the engine. A packet and a tick are no orders: nothing comes of them.
+/// Gives an order to the engine. A packet and a tick are no orders: they do nothing.
 fn ask<W: Timers, R: Wait, S: Ledger>(
     rt: &R,
     engine: &Engine<W>,
@@ -80,9 +79,7 @@ fn ask<W: Timers, R: Wait, S: Ledger>(
     outs: &mut Outs,
     blank: Blank,
 ) -> Result<Answer, EngineFault>
-    requires name { blank.name ≡ S.name }
-    requires parts { blank.parts ≡ S.parts }
-    requires some { 0 < blank.parts }
+    requires blank { IsBlankOf S.name S.parts blank.name blank.parts }
     requires of { IsOf engine.now pass.old.1 }
     requires there { AllThere pass.old.1 }
     requires room { 5 ≤ outs.old.spare }
@@ -102,7 +99,7 @@ fn ask<W: Timers, R: Wait, S: Ledger>(
     }
 }
 
-/// Gives an order to the engine, and sends what it puts out.
+/// Gives an order to the engine, and sends what it emits.
 #[tactic(auto, using(crate::proofs::Doing::done_one))]
 pub(crate) fn give<W: Timers, L: Link, R: Wait>(
     rt: &R,
@@ -137,9 +134,7 @@ fn advance_shard<W: Timers, R: Wait, S: Ledger>(
     outs: &mut Outs,
     blank: Blank,
 ) -> Result<Answer, EngineFault>
-    requires name { blank.name ≡ S.name }
-    requires parts { blank.parts ≡ S.parts }
-    requires some { 0 < blank.parts }
+    requires blank { IsBlankOf S.name S.parts blank.name blank.parts }
     requires of { IsOf engine.now pass.old.1 }
     requires there { AllThere pass.old.1 }
     requires shard { shard < length engine.now.locks }
@@ -153,7 +148,7 @@ fn advance_shard<W: Timers, R: Wait, S: Ledger>(
     engine.advance(rt, pass, shard, tick, outs, &mut Steps::<S>::new(blank))
 }
 
-/// Advances a shard of the engine, and sends what it puts out.
+/// Advances a shard of the engine, and sends what it emits.
 pub(crate) fn advance<W: Timers, L: Link, R: Wait>(
     rt: &R,
     engine: &Engine<W>,

@@ -3,7 +3,7 @@
 /// Why a worker or a timer ended.
 #[derive(Clone, Copy, Debug, PartialEq, Eq)]
 pub enum End {
-    /// The link has no packet left, or the ticker no tick, or the limit of ticks was taken.
+    /// The link has no packet left, or the ticker no tick, or the limit of ticks was reached.
     Ended,
 
     /// The link failed to receive.
@@ -21,6 +21,6 @@ pub enum End {
     /// The word of this shard's lock is 2^64 - 2: no turn is left.
     Spent(u32, u64),
 
-    /// No memory is left.
+    /// Out of memory.
     Memory,
 }

@@ -47,7 +47,7 @@ fn send_all<L: Link>(link: &mut L, outs: &[Out], lost: &mut u64) -> Result<(), A
     Ok(())
 }
 
-/// The end that a fault of the engine brings.
+/// The end that a fault of the engine causes.
 fn ended(fault: EngineFault) -> End
     ensures { result ≡ end_of fault }
 {
@@ -58,7 +58,7 @@ fn ended(fault: EngineFault) -> End
     }
 }
 
-/// Sends what a call of the engine put out. The answer is for the caller of the engine alone: nobody hears it.
+/// Sends what a call of the engine emitted. The answer is for the caller of the engine alone: nobody hears it.
 pub(crate) fn settle<L: Link>(
     outcome: Result<Answer, EngineFault>,
     link: &mut L,

@@ -1,6 +1,6 @@
 //! The served text of shards.
 //!
-//! A shard's journal says what happened to it, and nothing of what that gave. [`served`] makes each shard anew from the
+//! A shard's journal says what happened to it, and nothing of what that gave. [`served`] rebuilds each shard from the
 //! configurations of its sessions, gives it the journal's entries one by one, and writes for each the turn and the report lines of
 //! what it gave; a last line has the numbers of entries, of packets sent and of sends that failed.
 //!

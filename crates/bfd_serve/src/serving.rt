@@ -1,4 +1,4 @@
-//! A run of workers over links beside a timer.
+//! A run of workers over links alongside a timer.
 ghost use Rattle.std.specs.Prelude.{◌≡◌, ◌<◌, ◌≤◌, ◌+◌, ◌++◌, ◌∷◌, ℕ, [], false, length, map, IfOk, IfErr, vec_capacity};
 ghost use Rattle.std.specs.List.{All, sum};
 ghost use Rattle.bfd_edge.specs.Faults.{risen};
@@ -43,7 +43,7 @@ pub struct Served<L> {
     pub lost: u64,
 }
 
-/// What has to be there before anybody works.
+/// What has to be present before anybody works.
 #[derive(Drop)]
 struct Room<L> {
     jobs: Vec<Job<L>>,
@@ -187,11 +187,11 @@ fn run_all<
     served
 }
 
-/// Runs a worker over each link beside the timer, all in parallel, each in a thread. It may wait.
+/// Runs a worker over each link alongside the timer, all in parallel, each in a thread. It may wait.
 ///
 /// The timer is caller 0, with the pass that the engine was opened with and a link of its own; worker i is caller i, counted from
-/// 1. When it returns, every pass that it split is joined to that of caller 0, which then keeps each worker's calls. Want of
-/// memory before any of them starts is the one refusal: it hands the links back, and uses up the numbers of the passes that were
+/// 1. When it returns, every pass that it split is joined to that of caller 0, which then keeps each worker's calls. Fails only
+/// when out of memory before any of them starts: that returns the links, and uses up the numbers of the passes that were
 /// split. There are at most 64 links.
 pub fn serve<
     W: Timers + Send,

@@ -42,7 +42,7 @@ fn work_all<W: Timers + Send, L: Link + Send, G: Gate + Sync, R: Threads + Wait 
     );
 }
 
-/// The timer beside the workers: how it ended, and how many sends it lost.
+/// The timer alongside the workers: how it ended, and how many sends it lost.
 pub(crate) fn beside<
     W: Timers + Send,
     L: Link + Send,

@@ -162,7 +162,7 @@ fn room_of<W: Timers>(engine: &Engine<W>) -> Option<usize>
     most.checked_mul(5)
 }
 
-/// Whether there is neither a tick to take nor an order to give.
+/// Whether neither a tick nor an order is left.
 fn is_idle(orders: &[Line], ticks: u64) -> bool
     ensures none { result ≡ true → (ticks ≡ 0) × (orders.now ≡ []) }
     ensures some { result ≡ false → 0 < ticks + length orders.now }
@@ -171,12 +171,12 @@ fn is_idle(orders: &[Line], ticks: u64) -> bool
 }
 
 /// Advances the engine to the ticks of a ticker, and gives it orders, each before the first tick by which its moment has come. It
-/// sends what they put out on its link. It may wait. It answers why it ended, and how many sends failed.
+/// sends what they emit on its link. It may wait. It answers why it ended, and how many sends failed.
 ///
 /// Before a tick come the leading orders that are due by it, up to the first that isn't; then every shard is advanced to it, ascending. At
-/// most `ticks` ticks are taken. After the last one, and where the ticker answers Ended, come the orders that are left, and then the end is
-/// Ended. ClockFault comes immediately, exactly where the ticker fails, Full and Spent where the engine's call has that fault. A send that
-/// fails is counted and no more. Memory means out of memory, and is never told where all was done.
+/// most `ticks` ticks are accepted. After the last one, and where the ticker answers Ended, come the orders that are left, and then the end
+/// is Ended. ClockFault comes immediately, if and only if the ticker fails, Full and Spent where the engine's call has that fault. A send
+/// that fails is counted and no more. Memory means out of memory, and is never reported where all was done.
 pub fn timer<W: Timers, L: Link, T: Ticker, R: Wait>(
     rt: &R,
     alloc: Global,

@@ -12,13 +12,13 @@ use bfd_wheel::Timers;
 use std::alloc::Global;
 use std::sync::Wait;
 
-/// Gives the arrivals of a link to the engine, in order, and sends what they put out on the same link. It may wait. It answers
+/// Gives the arrivals of a link to the engine, in order, and sends what they emit on the same link. It may wait. It answers
 /// why it ended, and how many sends failed.
 ///
 /// A turn is one `receive` of the link, and at most `turns` are made. An arrival is handled between `gate.before` and `gate.after`. Ended
-/// comes exactly where the link answers it, LinkFault where it fails to receive, Full and Spent where the engine's call has that fault, and
-/// Turns where all turns were made. A send that fails is counted and no more: the engine goes on as if the packet had been lost on its way.
-/// Memory means out of memory, and is never told where all turns were made and all was handled and sent.
+/// comes if and only if the link answers it, LinkFault where it fails to receive, Full and Spent where the engine's call has that fault,
+/// and Turns where all turns were made. A send that fails is counted and no more: the engine goes on as if the packet had been lost on its
+/// way. Memory means out of memory, and is never reported where all turns were made and all was handled and sent.
 pub fn worker<W: Timers, L: Link, G: Gate, R: Wait>(
     rt: &R,
     alloc: Global,

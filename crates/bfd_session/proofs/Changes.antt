@@ -1,10 +1,14 @@
 -- A session or a reflector more or less: the order, and the rows.
-use Rattle.bfd_session.proofs.Common.{◌≡◌, ◌<◌, ◌≤◌, ◌==◌, ◌++◌, ◌+◌, ◌-◌, ◌||◌, ℕ, zero, suc, Bool, true, false, cond, not, List, [], ◌∷◌, length, map, get_or, refl, sym, ap, subst, ◌∙◌, arith, None, Some, if◌then◌else◌, nat_lt, unwrap_or, AllByRecursion, filter, position, position_from, ne_eqb, nat_tests, Row, SessionConfig, discr_of, Ascends, row_of, rows_of, row_of_reflector, table_of, Reflector}
+use Rattle.bfd_session.proofs.Common.{◌≡◌, ◌<◌, ◌≤◌, ◌==◌, ◌++◌, ◌+◌, ◌-◌, ◌||◌, ℕ, zero, suc, Bool, true, false, cond, not, List, [], ◌∷◌}
+use Rattle.bfd_session.proofs.Common.{length, map, get_or, refl, sym, ap, subst, ◌∙◌, arith, None, Some, if◌then◌else◌, nat_lt, unwrap_or}
+use Rattle.bfd_session.proofs.Common.{AllByRecursion, filter, position, position_from, ne_eqb, nat_tests, Row, SessionConfig, discr_of}
+use Rattle.bfd_session.proofs.Common.{Ascends, row_of, rows_of, row_of_reflector, table_of, Reflector}
 use Rattle.std.specs.List.{insert, remove, list_any}
 use Rattle.std.specs.List.Sorted.{IsPartitionedBy, IsPartitionPoint}
 use Rattle.std.proofs.lemmas.Bool.{eqb-true}
 use Rattle.std.proofs.lemmas.List.{length-map}
-use Rattle.std.proofs.lemmas.List.Edits.{length-insert, length-remove, insert-append_left, insert-append_right, remove-append_left, remove-append_right}
+use Rattle.std.proofs.lemmas.List.Edits.{length-insert, length-remove, insert-append_left, insert-append_right, remove-append_left}
+use Rattle.std.proofs.lemmas.List.Edits.{remove-append_right}
 use Rattle.std.proofs.lemmas.Iterator.Adapters.{position_from-zero}
 use Rattle.std.proofs.lemmas.List.Folds.{list_any_at}
 use Rattle.bfd_packet.proofs.Turned.{number_turned}
@@ -64,14 +68,16 @@ module _ {X : Type 0} (key : X → ℕ) where
   up_rises (x ∷ xs) (suc i) (suc j) d up le within = up_rises xs i j d up.1 (omega arith) (omega arith)
 
   partitioned : (xs : List X) (discr : ℕ) → Up key xs → IsPartitionedBy (λ x. nat_lt (key x) discr) xs
-  partitioned xs discr up i j d le within pass = lower_too (key (get_or xs i d)) (key (get_or xs j d)) discr (up_rises xs i j d up le within) pass
+  partitioned xs discr up i j d le within pass = lower_too (key (get_or xs i d)) (key (get_or xs j d)) discr
+      (up_rises xs i j d up le within) pass
     where
       lower_too : (a b discr : ℕ) → a ≤ b → nat_lt b discr ≡ true → nat_lt a discr ≡ true
       lower_too a b discr below pass = grind (arith, nat_tests)
 
   -- what `partition_point` says is how many are lower
   pub lower_counted : (xs : List X) (discr i : ℕ) → i ≤ length xs → Up key xs
-      → (IsPartitionedBy (λ x. nat_lt (key x) discr) xs → IsPartitionPoint (λ x. nat_lt (key x) discr ≡ true) (λ x. nat_lt (key x) discr ≡ false) xs i)
+      → (IsPartitionedBy (λ x. nat_lt (key x) discr) xs
+      → IsPartitionPoint (λ x. nat_lt (key x) discr ≡ true) (λ x. nat_lt (key x) discr ≡ false) xs i)
       → i ≡ how_many (λ x. nat_lt (key x) discr) xs
   lower_counted xs discr i within up says =
       let sides = says (partitioned xs discr up) in
@@ -97,7 +103,8 @@ module _ {X : Type 0} (key : X → ℕ) where
   each_inserted P (y ∷ xs) (suc i) x h p = (h.0, each_inserted P xs i x h.1 p)
 
   -- one more, after the lower ones
-  pub up_inserted : (xs : List X) (n : ℕ) (x : X) → n ≡ how_many (λ y. nat_lt (key y) (key x)) xs → Up key xs → AllByRecursion (λ y. (key x == key y) ≡ false) xs
+  pub up_inserted : (xs : List X) (n : ℕ) (x : X) → n ≡ how_many (λ y. nat_lt (key y) (key x)) xs → Up key xs
+      → AllByRecursion (λ y. (key x == key y) ≡ false) xs
       → Up key (insert xs n x)
   up_inserted [] n x e up other = rw e (tt, tt)
   up_inserted (y ∷ xs) n x e up other = by (nat_lt (key y) (key x)) refl (λ m same. up_inserted xs m x same up.1 other.1)
@@ -108,10 +115,16 @@ module _ {X : Type 0} (key : X → ℕ) where
       higher : (a b : ℕ) → nat_lt a b ≡ false → (b == a) ≡ false → b < a
       higher a b is differs = grind (arith, nat_tests)
 
-      by : (b : Bool) → nat_lt (key y) (key x) ≡ b → ((m : ℕ) → m ≡ how_many (λ z. nat_lt (key z) (key x)) xs → Up key (insert xs m x)) → Up key (insert (y ∷ xs) n x)
+      by : (b : Bool) → nat_lt (key y) (key x) ≡ b → ((m : ℕ) → m ≡ how_many (λ z. nat_lt (key z) (key x)) xs → Up key (insert xs m x))
+          → Up key (insert (y ∷ xs) n x)
       by true is rest =
-          let more : n ≡ suc (how_many (λ z. nat_lt (key z) (key x)) xs) = e ∙ how_many-cons (λ z. nat_lt (key z) (key x)) y xs ∙ rw is (omega arith) in
-          rw more (each_inserted (λ later. key y < key later) xs (how_many (λ z. nat_lt (key z) (key x)) xs) x up.0 (lower (key y) (key x) is), rest (how_many (λ z. nat_lt (key z) (key x)) xs) refl)
+          let more : n ≡ suc (how_many (λ z. nat_lt (key z) (key x)) xs) =
+          e ∙ how_many-cons (λ z. nat_lt (key z) (key x)) y xs ∙ rw is (omega arith) in
+          rw more (
+            each_inserted (λ later. key y < key later) xs (how_many (λ z. nat_lt (key z) (key x)) xs) x up.0
+                (lower (key y) (key x) is),
+            rest (how_many (λ z. nat_lt (key z) (key x)) xs) refl,
+          )
       by false is rest =
           let above : key x < key y = higher (key y) (key x) is other.0 in
           let all = each_higher (key x) (key y) xs above up.0 in
@@ -130,7 +143,8 @@ module _ {X : Type 0} (key : X → ℕ) where
   up_kept keep [] up = tt
   up_kept keep (x ∷ xs) up = by (keep x) (each_kept (λ later. key x < key later) keep xs up.0) (up_kept keep xs up.1)
     where
-      by : (b : Bool) → AllByRecursion (λ later. key x < key later) (filter keep xs) → Up key (filter keep xs) → Up key (cond b (x ∷ filter keep xs) (filter keep xs))
+      by : (b : Bool) → AllByRecursion (λ later. key x < key later) (filter keep xs) → Up key (filter keep xs)
+          → Up key (cond b (x ∷ filter keep xs) (filter keep xs))
       by true all rest = (all, rest)
       by false all rest = rest
 
@@ -149,10 +163,12 @@ module _ {X : Type 0} (key : X → ℕ) where
       by true is few =
           let same = eqb-true (key x) discr is in
           let none = none_equal discr xs (subst (λ d. AllByRecursion (λ later. d < key later) xs) same up.0) in
-          let one : how_many (λ y. key y == discr) (x ∷ xs) ≡ 1 + how_many (λ y. key y == discr) xs = how_many-cons (λ y. key y == discr) x xs ∙ rw is refl in
+          let one : how_many (λ y. key y == discr) (x ∷ xs) ≡ 1 + how_many (λ y. key y == discr) xs =
+          how_many-cons (λ y. key y == discr) x xs ∙ rw is refl in
           omega arith
       by false is few =
-          let none : how_many (λ y. key y == discr) (x ∷ xs) ≡ 0 + how_many (λ y. key y == discr) xs = how_many-cons (λ y. key y == discr) x xs ∙ rw is refl in
+          let none : how_many (λ y. key y == discr) (x ∷ xs) ≡ 0 + how_many (λ y. key y == discr) xs =
+          how_many-cons (λ y. key y == discr) x xs ∙ rw is refl in
           omega arith
 
   -- the list without the one that has it
@@ -160,7 +176,8 @@ module _ {X : Type 0} (key : X → ℕ) where
       → remove xs i ≡ filter (λ x. not (key x == discr)) xs
   without discr xs i d up within has = removed_is_kept (λ x. key x == discr) xs i d within has (up_once discr xs up)
 
-  pub up_removed : (discr : ℕ) (xs : List X) (i : ℕ) (d : X) → Up key xs → i < length xs → (key (get_or xs i d) == discr) ≡ true → Up key (remove xs i)
+  pub up_removed : (discr : ℕ) (xs : List X) (i : ℕ) (d : X) → Up key xs → i < length xs → (key (get_or xs i d) == discr) ≡ true
+      → Up key (remove xs i)
   up_removed discr xs i d up within has = rw (without discr xs i d up within has) (up_kept (λ x. not (key x == discr)) xs up)
 
 -- what is taken out again
@@ -195,24 +212,33 @@ at_from : {X : Type 0} (test : X → Bool) (n : ℕ) {k : ℕ} (xs : List X) →
 at_from test n [] e = cc
 at_from {X} test n {k} (x ∷ xs) e = by (test x) refl e (at_from test (n + 1) xs)
   where
-    by : (b : Bool) → test x ≡ b → (if b then Some n else position_from test (n + 1) xs) ≡ Some k → (position_from test (n + 1) xs ≡ Some k → At test xs (n + 1) k) → At test (x ∷ xs) n k
-    by true passed f later = record { place = 0; is = (let same : n ≡ k = ap (λ o. unwrap_or o k) f in omega (arith, same)); within = omega arith; passes = λ d. passed }
+    by : (b : Bool) → test x ≡ b → (if b then Some n else position_from test (n + 1) xs) ≡ Some k
+        → (position_from test (n + 1) xs ≡ Some k → At test xs (n + 1) k) → At test (x ∷ xs) n k
+    by true passed f later = record {
+      place = 0;
+      is = (let same : n ≡ k = ap (λ o. unwrap_or o k) f in omega (arith, same));
+      within = omega arith;
+      passes = λ d. passed;
+    }
     by false passed f later = let a : At test xs (n + 1) k = later f in
         record { place = suc a.place; is = omega (arith, a.is); within = omega (arith, a.within); passes = a.passes }
 
-pub found_at : {X : Type 0} (test : X → Bool) {k : ℕ} (xs : List X) → position test xs ≡ Some k → (k < length xs) × ((d : X) → test (get_or xs k d) ≡ true)
+pub found_at : {X : Type 0} (test : X → Bool) {k : ℕ} (xs : List X) → position test xs ≡ Some k → (k < length xs)
+    × ((d : X) → test (get_or xs k d) ≡ true)
 found_at test {k} xs e =
     let a : At test xs 0 k = at_from test 0 xs (sym (position_from-zero test xs) ∙ e) in
     let same : k ≡ a.place = omega (arith, a.is) in
     (omega (arith, a.within), λ d. ap (λ p. test (get_or xs p d)) same ∙ a.passes d)
 
-absent_from : {X : Type 0} (test keep : X → Bool) → ((x : X) → test x ≡ false → keep x ≡ true) → (n : ℕ) (xs : List X) → position_from test n xs ≡ None
+absent_from : {X : Type 0} (test keep : X → Bool) → ((x : X) → test x ≡ false → keep x ≡ true) → (n : ℕ) (xs : List X)
+    → position_from test n xs ≡ None
     → (filter keep xs ≡ xs) × (list_any test xs ≡ false)
 absent_from test keep agree n [] e = (refl, refl)
 absent_from test keep agree n (x ∷ xs) e = by (test x) refl e (absent_from test keep agree (n + 1) xs)
   where
     by : (b : Bool) → test x ≡ b → (if b then Some n else position_from test (n + 1) xs) ≡ None
-        → (position_from test (n + 1) xs ≡ None → (filter keep xs ≡ xs) × (list_any test xs ≡ false)) → (filter keep (x ∷ xs) ≡ x ∷ xs) × (list_any test (x ∷ xs) ≡ false)
+        → (position_from test (n + 1) xs ≡ None → (filter keep xs ≡ xs) × (list_any test xs ≡ false)) → (filter keep (x ∷ xs) ≡ x ∷ xs)
+        × (list_any test (x ∷ xs) ≡ false)
     by true is f rest = cc
     by false is f rest = let r = rest f in (rw (agree x is) (ap (λ ys. x ∷ ys) r.0), rw is r.1)
 
@@ -227,7 +253,8 @@ pub session_row_added : (cs : List SessionConfig) (pool : List Reflector) (i : �
 session_row_added cs pool i c within = ap (λ rows. rows ++ map row_of_reflector pool) (map_inserted row_of cs i c)
     ∙ sym (insert-append_left (rows_of cs) (map row_of_reflector pool) i (row_of c) (omega (arith, length-map cs row_of)))
 
-pub session_row_removed : (cs : List SessionConfig) (pool : List Reflector) (i : ℕ) → i < length cs → table_of (remove cs i) pool ≡ remove (table_of cs pool) i
+pub session_row_removed : (cs : List SessionConfig) (pool : List Reflector) (i : ℕ) → i < length cs
+    → table_of (remove cs i) pool ≡ remove (table_of cs pool) i
 session_row_removed cs pool i within = ap (λ rows. rows ++ map row_of_reflector pool) (map_removed row_of cs i)
     ∙ sym (remove-append_left (rows_of cs) (map row_of_reflector pool) i (omega (arith, length-map cs row_of)))
 
@@ -237,25 +264,30 @@ back_to n at = omega arith
 pub pool_row_added : (cs : List SessionConfig) (pool : List Reflector) (at : ℕ) (r : Reflector)
     → table_of cs (insert pool at r) ≡ insert (table_of cs pool) (length cs + at) (row_of_reflector r)
 pool_row_added cs pool at r = ap (λ rows. rows_of cs ++ rows) (map_inserted row_of_reflector pool at r)
-    ∙ sym (insert-append_right (rows_of cs) (map row_of_reflector pool) (length cs) (length cs + at) (row_of_reflector r) (length-map cs row_of) (omega arith)
+    ∙ sym (insert-append_right (rows_of cs) (map row_of_reflector pool) (length cs) (length cs + at) (row_of_reflector r)
+    (length-map cs row_of) (omega arith)
     ∙ ap (λ n. rows_of cs ++ insert (map row_of_reflector pool) n (row_of_reflector r)) (back_to (length cs) at))
 
-pub pool_row_removed : (cs : List SessionConfig) (pool : List Reflector) (at : ℕ) → table_of cs (remove pool at) ≡ remove (table_of cs pool) (length cs + at)
+pub pool_row_removed : (cs : List SessionConfig) (pool : List Reflector) (at : ℕ)
+    → table_of cs (remove pool at) ≡ remove (table_of cs pool) (length cs + at)
 pool_row_removed cs pool at = ap (λ rows. rows_of cs ++ rows) (map_removed row_of_reflector pool at)
     ∙ sym (remove-append_right (rows_of cs) (map row_of_reflector pool) (length cs) (length cs + at) (length-map cs row_of) (omega arith)
     ∙ ap (λ n. rows_of cs ++ remove (map row_of_reflector pool) n) (back_to (length cs) at))
 
-row_at : (cs : List SessionConfig) (ps : List Row) (k : ℕ) (d : Row) (e : SessionConfig) → k < length cs → get_or (rows_of cs ++ ps) k d ≡ row_of (get_or cs k e)
+row_at : (cs : List SessionConfig) (ps : List Row) (k : ℕ) (d : Row) (e : SessionConfig) → k < length cs
+    → get_or (rows_of cs ++ ps) k d ≡ row_of (get_or cs k e)
 row_at [] ps k d e within = absurd (omega arith)
 row_at (c ∷ cs) ps zero d e within = refl
 row_at (c ∷ cs) ps (suc k) d e within = row_at cs ps k d e (omega arith)
 
-reflector_at : (pool : List Reflector) (k : ℕ) (d : Row) (e : Reflector) → k < length pool → get_or (map row_of_reflector pool) k d ≡ row_of_reflector (get_or pool k e)
+reflector_at : (pool : List Reflector) (k : ℕ) (d : Row) (e : Reflector) → k < length pool
+    → get_or (map row_of_reflector pool) k d ≡ row_of_reflector (get_or pool k e)
 reflector_at [] k d e within = absurd (omega arith)
 reflector_at (r ∷ pool) zero d e within = refl
 reflector_at (r ∷ pool) (suc k) d e within = reflector_at pool k d e (omega arith)
 
-after_sessions : (cs : List SessionConfig) (ps : List Row) (k n : ℕ) (d : Row) → n ≡ length cs + k → get_or (rows_of cs ++ ps) n d ≡ get_or ps k d
+after_sessions : (cs : List SessionConfig) (ps : List Row) (k n : ℕ) (d : Row) → n ≡ length cs + k
+    → get_or (rows_of cs ++ ps) n d ≡ get_or ps k d
 after_sessions [] ps k n d e = ap (λ m. get_or ps m d) (omega (arith, e))
 after_sessions (c ∷ cs) ps k zero d e = absurd (omega arith)
 after_sessions (c ∷ cs) ps k (suc n) d e = after_sessions cs ps k n d (omega arith)
@@ -265,17 +297,21 @@ one_session [] some = absurd (omega arith)
 one_session (c ∷ cs) some = c
 
 -- the row at the place has the discriminator that the session there has
-pub session_row_discr : (cs : List SessionConfig) (pool : List Reflector) (rows : List Row) (k discr : ℕ) → rows ≡ table_of cs pool → k < length cs
+pub session_row_discr : (cs : List SessionConfig) (pool : List Reflector) (rows : List Row) (k discr : ℕ) → rows ≡ table_of cs pool
+    → k < length cs
     → ((e : SessionConfig) → (discr == discr_of (get_or cs k e)) ≡ true) → (d : Row) → (get_or rows k d).discr ≡ discr
 session_row_discr cs pool rows k discr is within has d =
     let e = one_session cs (omega arith) in
-    rw is (ap (λ (row : Row). row.discr) (row_at cs (map row_of_reflector pool) k d e within) ∙ sym (eqb-true discr (discr_of (get_or cs k e)) (has e)))
+    rw is (ap (λ (row : Row). row.discr) (row_at cs (map row_of_reflector pool) k d e within)
+    ∙ sym (eqb-true discr (discr_of (get_or cs k e)) (has e)))
 
-pub pool_row_discr : (cs : List SessionConfig) (pool : List Reflector) (rows : List Row) (at discr : ℕ) → rows ≡ table_of cs pool → at < length pool
+pub pool_row_discr : (cs : List SessionConfig) (pool : List Reflector) (rows : List Row) (at discr : ℕ) → rows ≡ table_of cs pool
+    → at < length pool
     → ((e : Reflector) → ((get_or pool at e).discr == discr) ≡ true) → (d : Row) → (get_or rows (length cs + at) d).discr ≡ discr
 pool_row_discr cs pool rows at discr is within has d =
     let e : Reflector = record { discr = 0; rx = 0; up = false } in
-    rw is (ap (λ (row : Row). row.discr) (after_sessions cs (map row_of_reflector pool) at (length cs + at) d refl ∙ reflector_at pool at d e within)
+    rw is (ap (λ (row : Row). row.discr) (after_sessions cs (map row_of_reflector pool) at (length cs + at) d refl
+    ∙ reflector_at pool at d e within)
     ∙ eqb-true (get_or pool at e).discr discr (has e))
 
 -- ---- no other has the discriminator
@@ -311,21 +347,26 @@ module _ {cs : List SessionConfig} {pool : List Reflector} {rows : List Row} (ta
       let fit = fits (row_of c) rows clear in
       let apart = others (discr_of c) cs (map row_of_reflector pool) (rw (← table.rows_are) fit.discr) in
       record {
-        rows_are = are ∙ ap (λ rs. insert rs n (row_of c)) table.rows_are ∙ sym (session_row_added cs pool n c within) ∙ ap (λ xs. table_of xs pool) (sym is);
+        rows_are = are ∙ ap (λ rs. insert rs n (row_of c)) table.rows_are ∙ sym (session_row_added cs pool n c within)
+            ∙ ap (λ xs. table_of xs pool) (sym is);
         ascends = rw is (up_sessions (insert cs n c) (up_inserted discr_of cs n c e (sessions_up cs table.ascends) apart.0));
         climbs = table.climbs;
         few = omega (arith, fit.few, table_long, length-insert cs n c within, ap length is);
       }
 
-  pub with_reflector_more : (r : Reflector) (n : ℕ) → n ≡ pool_place_for r.discr pool → n ≤ length pool → add_fault (row_of_reflector r) rows ≡ None →
-      (more : List Reflector) (after : List Row) → more ≡ insert pool n r → after ≡ insert rows (length cs + n) (row_of_reflector r) → IsTableOf cs more after
+  pub with_reflector_more : (r : Reflector) (n : ℕ) → n ≡ pool_place_for r.discr pool → n ≤ length pool
+      → add_fault (row_of_reflector r) rows ≡ None →
+      (more : List Reflector) (after : List Row) → more ≡ insert pool n r → after ≡ insert rows (length cs + n) (row_of_reflector r)
+      → IsTableOf cs more after
   with_reflector_more r n e within clear more after is are =
       let fit = fits (row_of_reflector r) rows clear in
       let apart = others r.discr cs (map row_of_reflector pool) (rw (← table.rows_are) fit.discr) in
       record {
-        rows_are = are ∙ ap (λ rs. insert rs (length cs + n) (row_of_reflector r)) table.rows_are ∙ sym (pool_row_added cs pool n r) ∙ ap (table_of cs) (sym is);
+        rows_are = are ∙ ap (λ rs. insert rs (length cs + n) (row_of_reflector r)) table.rows_are ∙ sym (pool_row_added cs pool n r)
+            ∙ ap (table_of cs) (sym is);
         ascends = table.ascends;
-        climbs = rw is (up_pool (insert pool n r) (up_inserted (λ (x : Reflector). x.discr) pool n r e (pool_up pool table.climbs) (other_reflectors r.discr pool apart.1)));
+        climbs = rw is (up_pool (insert pool n r) (up_inserted (λ (x : Reflector). x.discr) pool n r e (pool_up pool table.climbs)
+            (other_reflectors r.discr pool apart.1)));
         few = table.few;
       }
 
@@ -334,8 +375,10 @@ module _ {cs : List SessionConfig} {pool : List Reflector} {rows : List Row} (ta
   with_session_less discr k within has less after is are =
       let e = one_session cs (omega arith) in
       record {
-        rows_are = are ∙ ap (λ rs. remove rs k) table.rows_are ∙ sym (session_row_removed cs pool k within) ∙ ap (λ xs. table_of xs pool) (sym is);
-        ascends = rw is (up_sessions (remove cs k) (up_removed discr_of discr cs k e (sessions_up cs table.ascends) within (number_turned _ _ ∙ has e)));
+        rows_are = are ∙ ap (λ rs. remove rs k) table.rows_are ∙ sym (session_row_removed cs pool k within)
+            ∙ ap (λ xs. table_of xs pool) (sym is);
+        ascends = rw is (up_sessions (remove cs k) (up_removed discr_of discr cs k e (sessions_up cs table.ascends) within
+            (number_turned _ _ ∙ has e)));
         climbs = table.climbs;
         few = omega (arith, table.few, length-remove cs k within, ap length is);
       }
@@ -347,12 +390,14 @@ module _ {cs : List SessionConfig} {pool : List Reflector} {rows : List Row} (ta
       record {
         rows_are = are ∙ ap (λ rs. remove rs (length cs + k)) table.rows_are ∙ sym (pool_row_removed cs pool k) ∙ ap (table_of cs) (sym is);
         ascends = table.ascends;
-        climbs = rw is (up_pool (remove pool k) (up_removed (λ (x : Reflector). x.discr) discr pool k e (pool_up pool table.climbs) within (has e)));
+        climbs = rw is (up_pool (remove pool k) (up_removed (λ (x : Reflector). x.discr) discr pool k e (pool_up pool table.climbs) within
+            (has e)));
         few = table.few;
       }
 
   -- the session that is found, taken out
-  pub session_out : (discr k : ℕ) → place_of discr cs ≡ Some k → (k < length cs) × ((e : SessionConfig) → (discr == discr_of (get_or cs k e)) ≡ true)
+  pub session_out : (discr k : ℕ) → place_of discr cs ≡ Some k → (k < length cs)
+      × ((e : SessionConfig) → (discr == discr_of (get_or cs k e)) ≡ true)
       × (remove cs k ≡ filter (λ c. not (discr_of c == discr)) cs)
   session_out discr k e =
       let found = found_at (λ c. discr == discr_of c) cs e in
@@ -360,10 +405,12 @@ module _ {cs : List SessionConfig} {pool : List Reflector} {rows : List Row} (ta
       (found.0, found.1, without discr_of discr cs k c (sessions_up cs table.ascends) found.0 (number_turned _ _ ∙ found.1 c))
 
   pub session_absent : (discr : ℕ) → place_of discr cs ≡ None → filter (λ c. not (discr_of c == discr)) cs ≡ cs
-  session_absent discr e = (absent (λ c. discr == discr_of c) (λ c. not (discr_of c == discr)) (λ c is. ap not (number_turned (discr_of c) discr ∙ is)) cs e).0
+  session_absent discr e = (absent (λ c. discr == discr_of c) (λ c. not (discr_of c == discr))
+      (λ c is. ap not (number_turned (discr_of c) discr ∙ is)) cs e).0
 
   pub reflector_out : (discr k : ℕ) → position (λ (r : Reflector). r.discr == discr) pool ≡ Some k → (k < length pool)
-      × ((e : Reflector) → ((get_or pool k e).discr == discr) ≡ true) × (remove pool k ≡ filter (λ (r : Reflector). not (r.discr == discr)) pool)
+      × ((e : Reflector) → ((get_or pool k e).discr == discr) ≡ true)
+      × (remove pool k ≡ filter (λ (r : Reflector). not (r.discr == discr)) pool)
       × (list_any (λ (r : Reflector). r.discr == discr) pool ≡ true)
   reflector_out discr k e =
       let found = found_at (λ (r : Reflector). r.discr == discr) pool e in

@@ -1,11 +1,16 @@
 -- Names that proofs of this crate cite, passed on from one place. Declares nothing.
-pub use Rattle.std.proofs.Common.{Bool, Err, IfSome, IsSome, IsTrue, List, None, Ok, Option, Result, Some, [], ap, append-nil, arith, cond, false, get_or, if◌then◌else◌, inl, inr, is_none, is_some, length, map, not, option_map, refl, rules, subst, suc, sym, take, true, zero, ℕ, ◌&&◌, ◌*◌, ◌++◌, ◌+◌, ◌-◌, ◌<◌, ◌==◌, ◌^◌, ◌||◌, ◌↔◌, ◌∙◌, ◌∷◌, ◌≡◌, ◌≤◌}
+pub use Rattle.std.proofs.Common.{Bool, Err, IfSome, IsSome, IsTrue, List, None, Ok, Option, Result, Some, [], ap, append-nil, arith, cond}
+pub use Rattle.std.proofs.Common.{false, get_or, if◌then◌else◌, inl, inr, is_none, is_some, length, map, not, option_map, refl, rules}
+pub use Rattle.std.proofs.Common.{subst, suc, sym, take, true, zero, ℕ, ◌&&◌, ◌*◌, ◌++◌, ◌+◌, ◌-◌, ◌<◌, ◌==◌, ◌^◌, ◌||◌, ◌↔◌, ◌∙◌, ◌∷◌, ◌≡◌}
+pub use Rattle.std.proofs.Common.{◌≤◌}
 pub use Rattle.std.proofs.lemmas.Bool.{and_parts, eq-eqb, leb-false, ne_eqb, or_parts}
 pub use Rattle.std.proofs.lemmas.Bool.Decides.{nat_tests}
 pub use Rattle.std.proofs.lemmas.Grind.{common_steps}
 pub use Rattle.std.specs.List.{AllByRecursion, filter, list_all, position_from, position_or_len}
 pub use Rattle.std.specs.Prelude.{find, nat_le, nat_lt, position, slice_get, slice_index, unwrap_or}
-pub use Rattle.bfd_demux.specs.Selection.{first_header_failing, first_table_failing, is_multipoint, is_session, names_on, only, reflector_index, session_index, table_fails, target_of, target_on, tests_on_header, tests_on_table, the_one}
+pub use Rattle.bfd_demux.specs.Selection.{first_header_failing, first_table_failing, is_multipoint, is_session, names_on, only}
+pub use Rattle.bfd_demux.specs.Selection.{reflector_index, session_index, table_fails, target_of, target_on, tests_on_header}
+pub use Rattle.bfd_demux.specs.Selection.{tests_on_table, the_one}
 pub use Rattle.bfd_demux.specs.declared.row.Row.{Row}
 pub use Rattle.bfd_echo.specs.Rules.{HasMoments}
 unfoldable pub use Rattle.bfd_echo.specs.Rules.{outcome}
@@ -31,7 +36,9 @@ pub use Rattle.bfd_packet.specs.declared.control.Control.{Control}
 pub use Rattle.bfd_packet.specs.declared.control.State.{State}
 pub use Rattle.bfd_packet.specs.declared.control.State.TheVariants.{Down, Init, Up}
 pub use Rattle.bfd_packet.specs.declared.discard.Test.{Test}
-pub use Rattle.bfd_packet.specs.declared.discard.Test.TheVariants.{AuthDigest, AuthKey, AuthLen, AuthMissing, AuthSeq, AuthType, AuthUnexpected, DetectMult, LengthMin, LengthOver, Multipoint, MyDiscr, Short, Ttl, Version}
+pub use Rattle.bfd_packet.specs.declared.discard.Test.TheVariants.{AuthDigest, AuthKey, AuthLen, AuthMissing, AuthSeq, AuthType}
+pub use Rattle.bfd_packet.specs.declared.discard.Test.TheVariants.{AuthUnexpected, DetectMult, LengthMin, LengthOver, Multipoint, MyDiscr}
+pub use Rattle.bfd_packet.specs.declared.discard.Test.TheVariants.{Short, Ttl, Version}
 pub use Rattle.bfd_packet.specs.declared.keys.SeqState.{SeqState}
 pub use Rattle.bfd_rules.specs.EventFrame.{Course, based, begins, course, draws, enters, is_untold}
 unfoldable pub use Rattle.bfd_rules.specs.EventFrame.{changes, drawn, redrawn, sends}
@@ -45,12 +52,15 @@ pub use Rattle.bfd_rules.specs.declared.variables.Mark.{Mark}
 pub use Rattle.bfd_rules.specs.declared.variables.Vars.{Vars}
 pub use Rattle.bfd_sbfd.specs.declared.reflecting.Reflector.{Reflector}
 pub use Rattle.bfd_session.specs.Due.{detects, detects_by, due, due_by, tick_of}
-pub use Rattle.bfd_session.specs.Echoing.{IsEchoOver, back_to, echo_due, echoing, goes_on, interval_of, number_after, number_by, settled_by, settled_running, should_echo, turns_echo}
+pub use Rattle.bfd_session.specs.Echoing.{IsEchoOver, back_to, echo_due, echoing, goes_on, interval_of, number_after, number_by, settled_by}
+pub use Rattle.bfd_session.specs.Echoing.{settled_running, should_echo, turns_echo}
 unfoldable pub use Rattle.bfd_session.specs.Echoing.{settles_echo}
 pub use Rattle.bfd_session.specs.Inside.{head_of, pair_of, running_of, seek_of, tail_of}
 pub use Rattle.bfd_session.specs.Kinds.{Flow, Running, along, configs_of, discr_of, flow, left_by}
 pub use Rattle.bfd_session.specs.Rows.{AreFit, Ascends, Differs, kind_of, row_of, row_of_reflector, rows_of, same_selector, table_of}
-pub use Rattle.bfd_session.specs.Step.{CanTake, HasSize, IsFit, IsFor, IsPairSound, IsSound, TakesPacket, acted, answer_of, answer_to_packet, begun, finished, next, reply_from, settled, sound_by, started, step_from, tick_from, tick_next}
+pub use Rattle.bfd_session.specs.Step.{CanTake, HasSize, IsFit, IsFor, IsPairSound, IsSound, TakesPacket, acted, answer_of}
+pub use Rattle.bfd_session.specs.Step.{answer_to_packet, begun, finished, next, reply_from, settled, sound_by, started, step_from}
+pub use Rattle.bfd_session.specs.Step.{tick_from, tick_next}
 unfoldable pub use Rattle.bfd_session.specs.Step.{emits, reply, step, stepped_flow, tick, tick_emits, ticked_flow}
 pub use Rattle.bfd_session.specs.declared.event.Event.{Event}
 pub use Rattle.bfd_session.specs.declared.event.Event.TheVariants.{Command, Packet, Returned, Show}

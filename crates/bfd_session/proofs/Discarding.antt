@@ -1,6 +1,11 @@
 -- The one list of tests that may discard an arrival is the table's and then the session's, and a session's verdict tells of
 -- the first of its own that fails.
-use Rattle.bfd_session.proofs.Common.{◌≡◌, ◌||◌, ◌++◌, ◌∷◌, not, ℕ, Bool, true, false, List, [], refl, sym, ap, ◌∙◌, Option, None, Some, Result, cond, if◌then◌else◌, take, find, and_parts, list_all, Arrival, Port, State, Test, Ttl, AuthUnexpected, AuthMissing, AuthType, AuthKey, AuthLen, AuthSeq, AuthDigest, SeqState, unless, fields_of, Config, Vars, is_admin_down, Row, is_multipoint, table_fails, tests_on_header, tests_on_table, first_table_failing, SessionConfig, Pair, Packet, Running, reply, answer_to_packet, Head, KeyChain, session_fails, session_tests, authenticated, judged_by, verdict_by, verdict_on}
+use Rattle.bfd_session.proofs.Common.{◌≡◌, ◌||◌, ◌++◌, ◌∷◌, not, ℕ, Bool, true, false, List, [], refl, sym, ap, ◌∙◌, Option, None, Some}
+use Rattle.bfd_session.proofs.Common.{Result, cond, if◌then◌else◌, take, find, and_parts, list_all, Arrival, Port, State, Test, Ttl}
+use Rattle.bfd_session.proofs.Common.{AuthUnexpected, AuthMissing, AuthType, AuthKey, AuthLen, AuthSeq, AuthDigest, SeqState, unless}
+use Rattle.bfd_session.proofs.Common.{fields_of, Config, Vars, is_admin_down, Row, is_multipoint, table_fails, tests_on_header}
+use Rattle.bfd_session.proofs.Common.{tests_on_table, first_table_failing, SessionConfig, Pair, Packet, Running, reply, answer_to_packet}
+use Rattle.bfd_session.proofs.Common.{Head, KeyChain, session_fails, session_tests, authenticated, judged_by, verdict_by, verdict_on}
 use Rattle.std.proofs.lemmas.List.Folds.{find-append}
 use Rattle.std.specs.Option.{option_or}
 use Rattle.bfd_packet.specs.declared.arrival.Port.TheVariants.{Single, Multi, Answer as AnswerPort}
@@ -9,7 +14,8 @@ use Rattle.bfd_auth.specs.Verdict.{verdict, section_fails, section_tests}
 use Rattle.bfd_rules.specs.declared.verdict.Verdict.{Verdict}
 use Rattle.bfd_rules.specs.declared.verdict.Verdict.TheVariants.{Accepted, Dropped}
 use Rattle.bfd_session.specs.Step.{verdict_by as verdict_of}
-use Rattle.bfd_session.specs.Discards.{unauthentic, pair_fails, plain_fails, own_fails, own_tests, first_own_failing, discards, first_discarding, test_of, judging, answer_by}
+use Rattle.bfd_session.specs.Discards.{unauthentic, pair_fails, plain_fails, own_fails, own_tests, first_own_failing, discards}
+use Rattle.bfd_session.specs.Discards.{first_discarding, test_of, judging, answer_by}
 
 -- two sentences that agree on the tests of a list find the same
 find_same : (p : Test → Bool) {q keep : Test → Bool} → ((test : Test) → keep test ≡ true → p test ≡ q test)
@@ -42,7 +48,8 @@ is_shared test = not (is_section test || is_first test)
 
 -- no packet fails another test for its authentication section, nor for the session
 
-unauthentic_not : (keys : Option KeyChain) (seq : SeqState) (raw : List ℕ) (test : Test) → is_section test ≡ false → unauthentic keys seq raw test ≡ false
+unauthentic_not : (keys : Option KeyChain) (seq : SeqState) (raw : List ℕ) (test : Test) → is_section test ≡ false
+    → unauthentic keys seq raw test ≡ false
 unauthentic_not (Some keys) seq raw AuthType other = cc
 unauthentic_not (Some keys) seq raw AuthKey other = cc
 unauthentic_not (Some keys) seq raw AuthLen other = cc
@@ -102,7 +109,12 @@ own_first rows c v arrival = refl
 pub discards_first : (rows : List Row) (c : SessionConfig) (v : Vars) (arrival : Arrival)
     → first_discarding rows c v arrival ≡ option_or (first_table_failing rows arrival) (first_own_failing c v arrival)
 discards_first rows c v arrival =
-    cc (find-append (discards rows c v arrival) (tests_on_header arrival.port ++ tests_on_table arrival.port (is_multipoint arrival.port arrival)) (own_tests c), table_first rows c v arrival, own_first rows c v arrival)
+    cc (
+      find-append (discards rows c v arrival) (tests_on_header arrival.port
+          ++ tests_on_table arrival.port (is_multipoint arrival.port arrival)) (own_tests c),
+      table_first rows c v arrival,
+      own_first rows c v arrival,
+    )
 
 -- the verdict of a point-to-point session
 
@@ -119,10 +131,12 @@ told_unless state (Some test) seq = refl
 -- the tests of the authentication section, with the one on AdminDown after them
 section_first : (keys : Option KeyChain) (state : State) (seq : SeqState) (raw : List ℕ)
     → test_of (verdict_by state (authenticated keys seq (fields_of raw) raw))
-    ≡ option_or (find (unauthentic keys seq (take (fields_of raw).length raw)) section_tests) (cond (is_admin_down state) (Some AdminDown) None)
+    ≡ option_or (find (unauthentic keys seq (take (fields_of raw).length raw)) section_tests)
+    (cond (is_admin_down state) (Some AdminDown) None)
 unfolding verdict
 section_first None state seq raw = told_by (is_admin_down state)
-section_first (Some keys) state seq raw = told_unless state (find (section_fails keys seq (take (fields_of raw).length raw)) section_tests) _
+section_first (Some keys) state seq raw = told_unless state (find (section_fails keys seq (take (fields_of raw).length raw)) section_tests)
+    _
 
 told_judged : (state : State) (o : Option Test) (verified : Result SeqState Test)
     → test_of (verdict_by state (judged_by o verified)) ≡ option_or o (test_of (verdict_by state verified))
@@ -133,18 +147,22 @@ told_judged state (Some test) verified = refl
 pair_same : (c : Config) (v : Vars) (ttl : ℕ) (raw : List ℕ) (test : Test) → is_first test ≡ true
     → pair_fails c v ttl raw test ≡ session_fails c ttl (fields_of raw) test
 pair_same c v ttl raw Ttl first = or_nothing _ (unauthentic_not c.keys v.seq (take (fields_of raw).length raw) Ttl refl)
-pair_same c v ttl raw AuthUnexpected first = or_nothing _ (unauthentic_not c.keys v.seq (take (fields_of raw).length raw) AuthUnexpected refl)
+pair_same c v ttl raw AuthUnexpected first = or_nothing _
+    (unauthentic_not c.keys v.seq (take (fields_of raw).length raw) AuthUnexpected refl)
 pair_same c v ttl raw AuthMissing first = or_nothing _ (unauthentic_not c.keys v.seq (take (fields_of raw).length raw) AuthMissing refl)
 pair_same c v ttl raw _ first = cc
 
-pair_first : (c : Config) (v : Vars) (arrival : Arrival) → first_own_failing (Pair c) v arrival ≡ test_of (verdict_on c arrival.ttl arrival.payload v)
+pair_first : (c : Config) (v : Vars) (arrival : Arrival)
+    → first_own_failing (Pair c) v arrival ≡ test_of (verdict_on c arrival.ttl arrival.payload v)
 pair_first c v arrival =
     let raw : List ℕ = arrival.payload in
     let fails = pair_fails c v arrival.ttl raw in
     let first : Option Test = find (session_fails c arrival.ttl (fields_of raw)) session_tests in
     find-append fails session_tests (section_tests ++ AdminDown ∷ []) ∙ ap (λ o. option_or o (find fails (section_tests ++ AdminDown ∷ [])))
-    (find_same _ (pair_same c v arrival.ttl raw) session_tests refl) ∙ ap (λ o. option_or first o) (find-append fails section_tests (AdminDown ∷ []))
-    ∙ sym (told_judged v.state first (authenticated c.keys v.seq (fields_of raw) raw) ∙ ap (λ o. option_or first o) (section_first c.keys v.state v.seq raw))
+    (find_same _ (pair_same c v arrival.ttl raw) session_tests refl)
+    ∙ ap (λ o. option_or first o) (find-append fails section_tests (AdminDown ∷ []))
+    ∙ sym (told_judged v.state first (authenticated c.keys v.seq (fields_of raw) raw)
+    ∙ ap (λ o. option_or first o) (section_first c.keys v.state v.seq raw))
 
 -- the verdict of a session without authentication
 
@@ -165,6 +183,7 @@ answered : (verdict : Verdict) → answer_to_packet verdict ≡ answer_by (test_
 answered Accepted = refl
 answered (Dropped test) = refl
 
-pub reply_first : (s : Running) (eff : ℕ) (arrival : Arrival) → reply eff (Packet arrival) s ≡ answer_by (first_own_failing s.config (judging eff s) arrival)
+pub reply_first : (s : Running) (eff : ℕ) (arrival : Arrival)
+    → reply eff (Packet arrival) s ≡ answer_by (first_own_failing s.config (judging eff s) arrival)
 unfolding reply
 reply_first s eff arrival = cc (answered (verdict_of s.config arrival (judging eff s)), verdict_first s.config (judging eff s) arrival)

@@ -1,5 +1,7 @@
 -- The end of a point-to-point session's event leaves what its Echo function runs by.
-use Rattle.bfd_session.proofs.Common.{◌≡◌, ℕ, Bool, true, false, refl, Option, None, Some, if◌then◌else◌, next_j, Config, Mark, Vars, may_send, tx_interval, Course, sends, is_untold, based, draws, drawn, redrawn, transmits, Echo, echo_due, IsEchoOver, pick}
+use Rattle.bfd_session.proofs.Common.{◌≡◌, ℕ, Bool, true, false, refl, Option, None, Some, if◌then◌else◌, next_j, Config, Mark, Vars}
+use Rattle.bfd_session.proofs.Common.{may_send, tx_interval, Course, sends, is_untold, based, draws, drawn, redrawn, transmits, Echo}
+use Rattle.bfd_session.proofs.Common.{echo_due, IsEchoOver, pick}
 use Rattle.bfd_p2p.specs.Finish.{extra, finish}
 
 -- the variables that it runs by are the same

@@ -1,5 +1,11 @@
 -- A tick forgets that a packet was heard exactly where the Detection Time has expired.
-use Rattle.bfd_session.proofs.Common.{◌≡◌, ◌+◌, ◌-◌, ◌==◌, ◌||◌, ◌&&◌, ℕ, Bool, true, false, refl, ◌∙◌, Option, None, Some, is_none, IsSome, [], arith, if◌then◌else◌, common_steps, Down, Up, floor_tick, has_come, Config, Vars, deadline, seq_deadline, is_up, demand_here, may_send, poll_again, poll_renewed, used_renewed, demand_renewed, renewed, Course, enters, changes, sends, is_untold, redrawn, renews, moves, transmits, failed, HeadConfig, Echo, EchoResult, Failed, SessionConfig, Pair, Running, Flow, detects, detects_by, settled_by, settled_running, settles_echo, echoing, sound_by, tick, tick_next, ticked_flow, begun, Seek, Head, Tail, option_map, IsSound}
+use Rattle.bfd_session.proofs.Common.{◌≡◌, ◌+◌, ◌-◌, ◌==◌, ◌||◌, ◌&&◌, ℕ, Bool, true, false, refl, ◌∙◌, Option, None, Some, is_none, IsSome}
+use Rattle.bfd_session.proofs.Common.{[], arith, if◌then◌else◌, common_steps, Down, Up, floor_tick, has_come, Config, Vars, deadline}
+use Rattle.bfd_session.proofs.Common.{seq_deadline, is_up, demand_here, may_send, poll_again, poll_renewed, used_renewed, demand_renewed}
+use Rattle.bfd_session.proofs.Common.{renewed, Course, enters, changes, sends, is_untold, redrawn, renews, moves, transmits, failed}
+use Rattle.bfd_session.proofs.Common.{HeadConfig, Echo, EchoResult, Failed, SessionConfig, Pair, Running, Flow, detects, detects_by}
+use Rattle.bfd_session.proofs.Common.{settled_by, settled_running, settles_echo, echoing, sound_by, tick, tick_next, ticked_flow, begun}
+use Rattle.bfd_session.proofs.Common.{Seek, Head, Tail, option_map, IsSound}
 use Rattle.std.proofs.Math.Bool.{or-false}
 use Rattle.bfd_packet.specs.States.{is_init_or_up}
 use Rattle.bfd_rules.specs.Sound as pair
@@ -50,7 +56,8 @@ moves_none discr eff v s = renewed_none eff s.vars v
 
 -- settling
 
-either : {n : Bool} (b : Bool) (x y : Course) → is_none x.vars.heard ≡ n → is_none y.vars.heard ≡ n → is_none (if b then x else y).vars.heard ≡ n
+either : {n : Bool} (b : Bool) (x y : Course) → is_none x.vars.heard ≡ n → is_none y.vars.heard ≡ n
+    → is_none (if b then x else y).vars.heard ≡ n
 either true x y hx hy = hx
 either false x y hx hy = hy
 
@@ -61,7 +68,8 @@ silent_none v = by (is_init_or_up v.state)
     by true = refl
     by false = refl
 
-or_come : (n come : Bool) (x y : Course) → is_none x.vars.heard ≡ true → is_none y.vars.heard ≡ n → is_none (if come then x else y).vars.heard ≡ (n || come)
+or_come : (n come : Bool) (x y : Course) → is_none x.vars.heard ≡ true → is_none y.vars.heard ≡ n
+    → is_none (if come then x else y).vars.heard ≡ (n || come)
 or_come true true x y hx hy = hx
 or_come false true x y hx hy = hx
 or_come true false x y hx hy = hy
@@ -71,7 +79,8 @@ detection_none : (c : Config) (limit eff : ℕ) (s : Course)
     → is_none (settling.detection c limit eff s).vars.heard ≡ (is_none s.vars.heard || has_come limit (deadline s.vars))
 unfolding settling.detection
 detection_none c limit eff s =
-    or_come (is_none s.vars.heard) (has_come limit (deadline s.vars)) (moves c.discr eff (settling.goes_silent (settling.forgets_peer s.vars)) s) s
+    or_come (is_none s.vars.heard) (has_come limit (deadline s.vars))
+    (moves c.discr eff (settling.goes_silent (settling.forgets_peer s.vars)) s) s
     (moves_none c.discr eff (settling.goes_silent (settling.forgets_peer s.vars)) s ∙ silent_none s.vars) refl
 
 sequence_none : (limit eff : ℕ) (s : Course) → is_none (settling.sequence limit eff s).vars.heard ≡ is_none s.vars.heard
@@ -84,7 +93,8 @@ periodic_packet_none c eff s = renews_none eff _ _
 
 periodic_none : (c : Config) (limit eff : ℕ) (s : Course) → is_none (settling.periodic c limit eff s).vars.heard ≡ is_none s.vars.heard
 unfolding settling.periodic
-periodic_none c limit eff s = either (has_come (floor_tick limit) s.vars.tx_due && may_send c.active s.vars) _ s (periodic_packet_none c eff s) refl
+periodic_none c limit eff s = either (has_come (floor_tick limit) s.vars.tx_due && may_send c.active s.vars) _ s
+    (periodic_packet_none c eff s) refl
 
 settle_none : (c : Config) (limit eff : ℕ) (s : Course)
     → is_none (settling.settle c limit eff s).vars.heard ≡ (is_none s.vars.heard || has_come limit (deadline s.vars))
@@ -114,13 +124,15 @@ settled_running_none : (c : Config) (limit eff : ℕ) (echo : Option Echo) (f : 
 settled_running_none c limit eff None f = refl
 settled_running_none c limit eff (Some e) f = settled_by_none c eff _ _ f
 
-settles_echo_none : (c : Config) (limit eff : ℕ) (f : Flow) → is_none (settles_echo c limit eff f).course.vars.heard ≡ is_none f.course.vars.heard
+settles_echo_none : (c : Config) (limit eff : ℕ) (f : Flow)
+    → is_none (settles_echo c limit eff f).course.vars.heard ≡ is_none f.course.vars.heard
 unfolding settles_echo
 settles_echo_none c limit eff f = settled_running_none c limit eff (echoing c f.course.vars f.echo) f
 
 -- the other kinds: what was heard is forgotten, or kept
 
-none_by : (come : Bool) (heard : Option ℕ) {after : Option ℕ} → after ≡ (if come then None else heard) → is_none after ≡ (is_none heard || come)
+none_by : (come : Bool) (heard : Option ℕ) {after : Option ℕ} → after ≡ (if come then None else heard)
+    → is_none after ≡ (is_none heard || come)
 none_by true None is = cc
 none_by true (Some m) is = cc
 none_by false None is = cc
@@ -146,7 +158,8 @@ unfolding head_finish.finish redrawn
 head_finish_heard c eff s =
     let t : Course = head_finish.extra c eff s in drawn_heard true t.mark t.vars ∙ head_extra_heard c eff s
 
-head_heard : (c : HeadConfig) (limit eff : ℕ) (s : Course) → (head_finish.finish c eff (head_settle.settle c limit eff s)).vars.heard ≡ s.vars.heard
+head_heard : (c : HeadConfig) (limit eff : ℕ) (s : Course)
+    → (head_finish.finish c eff (head_settle.settle c limit eff s)).vars.heard ≡ s.vars.heard
 head_heard c limit eff s = head_finish_heard c eff (head_settle.settle c limit eff s) ∙ head_settle_heard c limit eff s
 
 -- the whole tick
@@ -155,11 +168,14 @@ tick_by : (c : SessionConfig) (s : Running) (limit eff : ℕ)
     → is_none (tick c limit eff (begun None s [])).course.vars.heard ≡ (is_none s.vars.heard || has_come limit (detects_by c s.vars))
 unfolding tick
 tick_by (Pair c) s limit eff = finish_none c eff _ ∙ settles_echo_none c limit eff _ ∙ settle_none c limit eff (begun None s []).course
-tick_by (Seek c) s limit eff = none_by (has_come limit (seek_deadline s.vars)) s.vars.heard (seek.tick_heard c limit eff (begun None s []).course)
+tick_by (Seek c) s limit eff = none_by (has_come limit (seek_deadline s.vars)) s.vars.heard
+    (seek.tick_heard c limit eff (begun None s []).course)
 tick_by (Head c) s limit eff = cc (head_heard c limit eff (begun None s []).course, or-false (is_none s.vars.heard))
-tick_by (Tail c) s limit eff = none_by (has_come limit (tail_deadline s.vars)) s.vars.heard (tail.tail_heard c limit (begun None s []).course)
+tick_by (Tail c) s limit eff = none_by (has_come limit (tail_deadline s.vars)) s.vars.heard
+    (tail.tail_heard c limit (begun None s []).course)
 
-pub tick_expires : (s : Running) (limit eff : ℕ) → is_none (tick_next limit eff s).vars.heard ≡ (is_none s.vars.heard || has_come limit (detects s))
+pub tick_expires : (s : Running) (limit eff : ℕ) → is_none (tick_next limit eff s).vars.heard
+    ≡ (is_none s.vars.heard || has_come limit (detects s))
 unfolding ticked_flow
 tick_expires s limit eff = tick_by s.config s limit eff
 

@@ -4,6 +4,7 @@ pub mod DueTick
 pub mod EchoKept
 pub mod Rest
 pub mod Repeated
+pub mod Beating
 pub mod Soundness
 pub mod Machines
 pub mod Renewing

@@ -11,17 +11,20 @@ running {s} {t} config vars echo number = ap (λ c. record s { config = c }) con
     ∙ ap (λ e. record s { config = t.config; vars = t.vars; echo = e }) echo ∙ ap (λ n. record t { echo_next = n }) number
 
 pub pair_with : (m : pair.Machine) {n : pair.Machine} (old : Option Echo) {new : Option Echo} (before : ℕ) {after : ℕ} (f : Flow)
-    → n.config ≡ m.config → n.vars ≡ f.course.vars → new ≡ f.echo → after ≡ f.echo_next → pair_of n new after ≡ left_by f (pair_of m old before)
+    → n.config ≡ m.config → n.vars ≡ f.course.vars → new ≡ f.echo → after ≡ f.echo_next
+    → pair_of n new after ≡ left_by f (pair_of m old before)
 pair_with m old before f config vars echo number = running (cc) vars echo number
 
 pub seek_with : (m : seek.Machine) {n : seek.Machine} {f : Flow} → n.config ≡ m.config → n.vars ≡ f.course.vars → LeavesEcho f None 0
     → seek_of n ≡ left_by f (seek_of m)
 seek_with m config vars left = running (cc) vars (sym left.echo_kept) (sym left.number_kept)
 
-pub head_with : (m : tree.HeadMachine) {n : tree.HeadMachine} {f : Flow} → n.config ≡ m.config → n.vars ≡ f.course.vars → LeavesEcho f None 0
+pub head_with : (m : tree.HeadMachine) {n : tree.HeadMachine} {f : Flow} → n.config ≡ m.config → n.vars ≡ f.course.vars
+    → LeavesEcho f None 0
     → head_of n ≡ left_by f (head_of m)
 head_with m config vars left = running (cc) vars (sym left.echo_kept) (sym left.number_kept)
 
-pub tail_with : (m : tree.TailMachine) {n : tree.TailMachine} {f : Flow} → n.config ≡ m.config → n.vars ≡ f.course.vars → LeavesEcho f None 0
+pub tail_with : (m : tree.TailMachine) {n : tree.TailMachine} {f : Flow} → n.config ≡ m.config → n.vars ≡ f.course.vars
+    → LeavesEcho f None 0
     → tail_of n ≡ left_by f (tail_of m)
 tail_with m config vars left = running (cc) vars (sym left.echo_kept) (sym left.number_kept)

@@ -1,5 +1,11 @@
 -- Each output of an event names the event's session.
-use Rattle.bfd_session.proofs.Common.{◌≡◌, ◌&&◌, ℕ, Bool, true, false, List, [], Option, None, Some, is_some, Result, Ok, Err, if◌then◌else◌, AllByRecursion, Control, Test, SeqState, floor_tick, has_come, Cmd, Config, Vars, may_send, deadline, seq_deadline, is_admin_down, Course, changes, sends, is_untold, redrawn, renews, moves, transmits, refusal, commanded, Echo, EchoResult, Nothing, Failed, SessionConfig, Pair, Event, Packet, Returned, Command, Show, Running, Flow, discr_of, settled_by, settled_running, settles_echo, echoing, step, tick, acted, finished, begun, stepped_flow, ticked_flow, emits, tick_emits, Seek, Head, Tail, settled, own_name, changes_names, sends_names}
+use Rattle.bfd_session.proofs.Common.{◌≡◌, ◌&&◌, ℕ, Bool, true, false, List, [], Option, None, Some, is_some, Result, Ok, Err}
+use Rattle.bfd_session.proofs.Common.{if◌then◌else◌, AllByRecursion, Control, Test, SeqState, floor_tick, has_come, Cmd, Config, Vars}
+use Rattle.bfd_session.proofs.Common.{may_send, deadline, seq_deadline, is_admin_down, Course, changes, sends, is_untold, redrawn, renews}
+use Rattle.bfd_session.proofs.Common.{moves, transmits, refusal, commanded, Echo, EchoResult, Nothing, Failed, SessionConfig, Pair, Event}
+use Rattle.bfd_session.proofs.Common.{Packet, Returned, Command, Show, Running, Flow, discr_of, settled_by, settled_running, settles_echo}
+use Rattle.bfd_session.proofs.Common.{echoing, step, tick, acted, finished, begun, stepped_flow, ticked_flow, emits, tick_emits, Seek, Head}
+use Rattle.bfd_session.proofs.Common.{Tail, settled, own_name, changes_names, sends_names}
 use Rattle.bfd_packet.specs.declared.arrival.Datagram.{Datagram}
 use Rattle.bfd_p2p.specs.Settle as settling
 use Rattle.bfd_p2p.specs.Receive as receiving
@@ -52,7 +58,8 @@ periodic_packet-names c eff h = renews-names {d = c.discr} eff _ record { all = 
 
 periodic-names : (c : Config) (limit eff : ℕ) {s : Course} → Names c.discr s → Names c.discr (settling.periodic c limit eff s)
 unfolding settling.periodic
-periodic-names c limit eff {s} h = either (has_come (floor_tick limit) s.vars.tx_due && may_send c.active s.vars) (periodic_packet-names c eff h) h
+periodic-names c limit eff {s} h = either (has_come (floor_tick limit) s.vars.tx_due && may_send c.active s.vars)
+    (periodic_packet-names c eff h) h
 
 settle-names : (c : Config) (limit eff : ℕ) {s : Course} → Names c.discr s → Names c.discr (settling.settle c limit eff s)
 unfolding settling.settle
@@ -64,11 +71,13 @@ ends_poll-names : {d : ℕ} (eff : ℕ) (packet : Control) {s : Course} → Name
 unfolding receiving.ends_poll
 ends_poll-names eff packet h = either packet.fin (renews-names eff _ h) h
 
-kept-names : (c : Config) (eff : ℕ) (packet : Control) (seq : SeqState) {s : Course} → Names c.discr s → Names c.discr (receiving.kept c eff packet seq s)
+kept-names : (c : Config) (eff : ℕ) (packet : Control) (seq : SeqState) {s : Course} → Names c.discr s
+    → Names c.discr (receiving.kept c eff packet seq s)
 unfolding receiving.kept receiving.keeps_sequence receiving.keeps_fields
 kept-names c eff packet seq h = ends_poll-names eff packet (renews-names eff _ (renews-names eff _ h))
 
-moves_state-names : (c : Config) (eff : ℕ) (packet : Control) {s : Course} → Names c.discr s → Names c.discr (receiving.moves_state c eff packet s)
+moves_state-names : (c : Config) (eff : ℕ) (packet : Control) {s : Course} → Names c.discr s
+    → Names c.discr (receiving.moves_state c eff packet s)
 unfolding receiving.moves_state
 moves_state-names c eff packet h = moves-names eff _ h
 
@@ -89,7 +98,8 @@ unfolding receiving.received_on
 received_on-names c eff packet (Ok seq) h = accepted-names c eff packet seq h
 received_on-names c eff packet (Err test) h = h
 
-received-names : (c : Config) (eff ttl : ℕ) (raw : List ℕ) {s : Course} → Names c.discr s → Names c.discr (receiving.received c eff ttl raw s)
+received-names : (c : Config) (eff ttl : ℕ) (raw : List ℕ) {s : Course} → Names c.discr s
+    → Names c.discr (receiving.received c eff ttl raw s)
 unfolding receiving.received
 received-names c eff ttl raw h = received_on-names c eff _ _ h
 
@@ -127,21 +137,27 @@ settles_echo-names c limit eff f h = settled_running-names c limit eff (echoing 
 
 -- a whole event
 
-settled-names : (c : SessionConfig) (limit eff : ℕ) (f : Flow) → Names (discr_of c) f.course → Names (discr_of c) (settled c limit eff f).course
+settled-names : (c : SessionConfig) (limit eff : ℕ) (f : Flow) → Names (discr_of c) f.course
+    → Names (discr_of c) (settled c limit eff f).course
 settled-names (Pair c) limit eff f h = settles_echo-names c limit eff _ (settle-names c limit eff h)
 settled-names (Seek c) limit eff f h = record { all = seek.settle_names c _ limit eff f.course (own_name c.discr) h.all }
 settled-names (Head c) limit eff f h = record { all = tree.head_settle_names c _ limit eff f.course (own_name c.discr) h.all }
 settled-names (Tail c) limit eff f h = record { all = tree.tail_settle_names c _ limit f.course (own_name c.discr) h.all }
 
-acted-names : (c : SessionConfig) (eff : ℕ) (event : Event) (f : Flow) → Names (discr_of c) f.course → Names (discr_of c) (acted c eff event f).course
+acted-names : (c : SessionConfig) (eff : ℕ) (event : Event) (f : Flow) → Names (discr_of c) f.course
+    → Names (discr_of c) (acted c eff event f).course
 acted-names (Pair c) eff (Packet arrival) f h = received-names c eff _ _ h
 acted-names (Pair c) eff (Returned sequence) f h = h
 acted-names (Pair c) eff (Command cmd) f h = commanded-names c eff cmd h
 acted-names (Pair c) eff Show f h = h
-acted-names (Seek c) eff (Packet arrival) f h = record { all = seek.received_names c _ eff arrival.payload f.course (own_name c.discr) h.all }
+acted-names (Seek c) eff (Packet arrival) f h = record {
+  all = seek.received_names c _ eff arrival.payload f.course (own_name c.discr) h.all;
+}
 acted-names (Seek c) eff (Command cmd) f h = record { all = seek.commanded_names c _ cmd f.course (own_name c.discr) h.all }
 acted-names (Head c) eff (Command cmd) f h = record { all = tree.head_commanded_names c _ cmd f.course (own_name c.discr) h.all }
-acted-names (Tail c) eff (Packet arrival) f h = record { all = tree.received_names c _ eff arrival.payload f.course (own_name c.discr) h.all }
+acted-names (Tail c) eff (Packet arrival) f h = record {
+  all = tree.received_names c _ eff arrival.payload f.course (own_name c.discr) h.all;
+}
 acted-names (Tail c) eff (Command cmd) f h = record { all = tree.tail_commanded_names c _ cmd f.course (own_name c.discr) h.all }
 acted-names c eff event f h = h
 

@@ -1,5 +1,14 @@
 -- An own event keeps a session sound.
-use Rattle.bfd_session.proofs.Common.{◌≡◌, ◌<◌, ◌≤◌, ◌==◌, ◌||◌, ◌&&◌, not, ℕ, Bool, true, false, refl, Option, None, Some, is_some, is_none, IsSome, IfSome, List, [], length, Result, Ok, Err, arith, if◌then◌else◌, cond, common_steps, nat_tests, nat_le, unwrap_or, slice_index, Port, Control, State, Down, Init, Up, Test, Short, Version, LengthMin, LengthOver, DetectMult, SeqState, fields_of, first_failing, header_fails, moment_bound, Cmd, Config, Vars, is_admin_down, poll_renewed, used_renewed, demand_renewed, renewed, Course, sends, IsPlain, IsPlace, HasPeerMult, IsSteady, is_interval, renews, moves, transmits, key_place, is_wrong_kind, is_out_of_range, refusal, path_done, demand_done, done, commanded, HeadConfig, Echo, HasMoments, SessionConfig, Pair, Event, Packet, Returned, Command, Show, Running, Flow, left_by, echoing, back_to, CanTake, HasSize, step, acted, begun, next, stepped_flow, Seek, Head, Tail, option_map, KeyChain, place_of, no_key, returned_moments}
+use Rattle.bfd_session.proofs.Common.{◌≡◌, ◌<◌, ◌≤◌, ◌==◌, ◌||◌, ◌&&◌, not, ℕ, Bool, true, false, refl, Option, None, Some, is_some}
+use Rattle.bfd_session.proofs.Common.{is_none, IsSome, IfSome, List, [], length, Result, Ok, Err, arith, if◌then◌else◌, cond, common_steps}
+use Rattle.bfd_session.proofs.Common.{nat_tests, nat_le, unwrap_or, slice_index, Port, Control, State, Down, Init, Up, Test, Short, Version}
+use Rattle.bfd_session.proofs.Common.{LengthMin, LengthOver, DetectMult, SeqState, fields_of, first_failing, header_fails, moment_bound}
+use Rattle.bfd_session.proofs.Common.{Cmd, Config, Vars, is_admin_down, poll_renewed, used_renewed, demand_renewed, renewed, Course, sends}
+use Rattle.bfd_session.proofs.Common.{IsPlain, IsPlace, HasPeerMult, IsSteady, is_interval, renews, moves, transmits, key_place}
+use Rattle.bfd_session.proofs.Common.{is_wrong_kind, is_out_of_range, refusal, path_done, demand_done, done, commanded, HeadConfig, Echo}
+use Rattle.bfd_session.proofs.Common.{HasMoments, SessionConfig, Pair, Event, Packet, Returned, Command, Show, Running, Flow, left_by}
+use Rattle.bfd_session.proofs.Common.{echoing, back_to, CanTake, HasSize, step, acted, begun, next, stepped_flow, Seek, Head, Tail}
+use Rattle.bfd_session.proofs.Common.{option_map, KeyChain, place_of, no_key, returned_moments}
 use Rattle.std.proofs.lemmas.List.Quantifiers.{position-Some}
 use Rattle.bfd_packet.specs.declared.control.State.TheVariants.{AdminDown}
 use Rattle.bfd_packet.specs.declared.keys.Key.{Key}
@@ -14,7 +23,8 @@ use Rattle.bfd_mp.specs.Sound.{IsHeadSteady, IsHeadSound, IsTailSound}
 use Rattle.bfd_mp.proofs.Soundness as tree
 use Rattle.bfd_session.specs.Step as session
 use Rattle.bfd_session.proofs.Front.{LeavesEcho, step_leaves}
-use Rattle.bfd_session.proofs.Soundness.{IsPairSteady, poll_plain, used_plain, demand_plain, enters_plain, renews_steady, moves_steady, choice_steady, echoing_moments, pair_settled_steady, pair_finished_sound}
+use Rattle.bfd_session.proofs.Soundness.{IsPairSteady, poll_plain, used_plain, demand_plain, enters_plain, renews_steady, moves_steady}
+use Rattle.bfd_session.proofs.Soundness.{choice_steady, echoing_moments, pair_settled_steady, pair_finished_sound}
 
 -- nothing found: the first of the rest isn't
 found_none : {X : Type 0} → (b : Bool) (x : X) (o : Option X) → cond b (Some x) o ≡ None → (b ≡ false) × (o ≡ None)
@@ -75,7 +85,8 @@ keeps_fields_taken : (c : Config) (eff : ℕ) (packet : Control) (s : Course) �
     → Taken c (receiving.keeps_fields eff packet s)
 unfolding receiving.keeps_fields
 keeps_fields_taken c eff packet s h fits plain = record {
-  steady = renews_steady s h (fields_plain c eff packet s.vars h fits plain) (record { heard_mult = λ _. fits.mult; seq_mult = λ _. fits.mult });
+  steady = renews_steady s h (fields_plain c eff packet s.vars h fits plain)
+      (record { heard_mult = λ _. fits.mult; seq_mult = λ _. fits.mult });
   heard = renews_heard eff _ s refl;
 }
 
@@ -86,11 +97,13 @@ choice_taken : {c : Config} (b : Bool) {x y : Course} → Taken c x → Taken c 
 choice_taken true hx hy = hx
 choice_taken false hx hy = hy
 
-ends_poll_taken : {c : Config} {eff : ℕ} (packet : Control) {s : Course} → eff < moment_bound → Taken c s → Taken c (receiving.ends_poll eff packet s)
+ends_poll_taken : {c : Config} {eff : ℕ} (packet : Control) {s : Course} → eff < moment_bound → Taken c s
+    → Taken c (receiving.ends_poll eff packet s)
 unfolding receiving.ends_poll
 ends_poll_taken {eff} packet {s} h taken =
     choice_taken packet.fin record {
-      steady = renews_steady s h (ended_plain taken.steady.plain) (record { heard_mult = taken.steady.peer.heard_mult; seq_mult = taken.steady.peer.seq_mult });
+      steady = renews_steady s h (ended_plain taken.steady.plain)
+          (record { heard_mult = taken.steady.peer.heard_mult; seq_mult = taken.steady.peer.seq_mult });
       heard = renews_heard eff _ s taken.heard;
     } taken
 
@@ -133,14 +146,17 @@ answers_steady : {c : Config} (packet : Control) (s : Course) → IsSteady c s.v
 unfolding receiving.answers transmits sends
 answers_steady packet s steady = choice_steady packet.poll _ s (seq_steady _ steady) steady
 
-accepted_steady : (c : Config) (eff : ℕ) (packet : Control) (seq : SeqState) (s : Course) → eff < moment_bound → Fits packet → IsPlain c s.vars
+accepted_steady : (c : Config) (eff : ℕ) (packet : Control) (seq : SeqState) (s : Course) → eff < moment_bound → Fits packet
+    → IsPlain c s.vars
     → IsSteady c (receiving.accepted c eff packet seq s).vars
 unfolding receiving.accepted
 accepted_steady c eff packet seq s h fits plain =
     let taken = kept_taken c eff packet seq s h fits plain in
-    choice_steady (is_admin_down (receiving.kept c eff packet seq s).vars.state) _ _ taken.steady (answers_steady packet _ (moves_state_steady packet h taken))
+    choice_steady (is_admin_down (receiving.kept c eff packet seq s).vars.state) _ _ taken.steady
+    (answers_steady packet _ (moves_state_steady packet h taken))
 
-received_on_steady : (c : Config) (eff : ℕ) (packet : Control) (judgement : Result SeqState Test) (s : Course) → eff < moment_bound → Fits packet
+received_on_steady : (c : Config) (eff : ℕ) (packet : Control) (judgement : Result SeqState Test) (s : Course) → eff < moment_bound
+    → Fits packet
     → IsSteady c s.vars → IsSteady c (receiving.received_on c eff packet judgement s).vars
 unfolding receiving.received_on
 received_on_steady c eff packet (Ok seq) s h fits steady = accepted_steady c eff packet seq s h fits steady.plain
@@ -153,7 +169,9 @@ not_zero n h = grind (arith, nat_tests)
 
 some_mult : (port : Port) (payload : List ℕ) → first_failing port payload ≡ None → 0 < (fields_of payload).mult
 some_mult port payload h =
-    not_zero (slice_index payload 2) (found_none (header_fails DetectMult payload) _ _ (found_none (header_fails LengthOver payload) _ _ (found_none (header_fails LengthMin payload) _ _ (found_none (header_fails Version payload) _ _ (found_none (header_fails Short payload) _ _ h).1).1).1).1).0
+    not_zero (slice_index payload 2) (found_none (header_fails DetectMult payload) _ _
+    (found_none (header_fails LengthOver payload) _ _ (found_none (header_fails LengthMin payload) _ _
+    (found_none (header_fails Version payload) _ _ (found_none (header_fails Short payload) _ _ h).1).1).1).1).0
 
 -- commands
 
@@ -185,18 +203,21 @@ echo_plain : {c : Config} (n : ℕ) {v : Vars} → not (receiving.is_single c.ro
     → IsPlain c v → IsPlain c (record v { echo_every = n })
 echo_plain n single range plain = grind (arith, common_steps)
 
-place_by : (keys : List Key) (id other : ℕ) (place : Option ℕ) → place_of id keys ≡ place → is_none place ≡ false → unwrap_or place other < length keys
+place_by : (keys : List Key) (id other : ℕ) (place : Option ℕ) → place_of id keys ≡ place → is_none place ≡ false
+    → unwrap_or place other < length keys
 place_by keys id other None is there = cc
 place_by keys id other (Some place) is there = (position-Some (λ key. id == key.id) keys place no_key is).0
 
-place_within : (keys : Option KeyChain) (id other : ℕ) → is_none (key_place keys id) ≡ false → IsPlace keys (unwrap_or (key_place keys id) other)
+place_within : (keys : Option KeyChain) (id other : ℕ) → is_none (key_place keys id) ≡ false
+    → IsPlace keys (unwrap_or (key_place keys id) other)
 place_within None id other there = cc
 place_within (Some keys) id other there = place_by keys.list id other _ refl there
 
 key_plain : {c : Config} (place : ℕ) {v : Vars} → IsPlace c.keys place → IsPlain c v → IsPlain c (record v { sending = place })
 key_plain place h plain = grind (arith, common_steps)
 
-done_plain : {c : Config} (cmd : Cmd) {v : Vars} → is_wrong_kind c cmd ≡ false → is_out_of_range c cmd ≡ false → IsPlain c v → IsPlain c (done c cmd v)
+done_plain : {c : Config} (cmd : Cmd) {v : Vars} → is_wrong_kind c cmd ≡ false → is_out_of_range c cmd ≡ false → IsPlain c v
+    → IsPlain c (done c cmd v)
 done_plain Disable kind range plain = enters_plain AdminDown 7 (omega arith) (λ h. cc) plain
 done_plain Enable {v} kind range plain = enters_plain Down _ plain.diag_below (λ h. cc) plain
 done_plain Reset kind range plain = enters_plain Down 4 (omega arith) (λ h. cc) plain
@@ -217,15 +238,18 @@ commanded_by : {c : Config} {eff : ℕ} (cmd : Cmd) (s : Course) (o : Option Ref
 commanded_by cmd s (Some refused) is h steady = steady
 commanded_by {c} cmd s None is h steady =
     let after_kind = found_none (is_wrong_kind c cmd) _ _ is in
-    moves_steady s h (done_plain cmd after_kind.0 (found_none (is_out_of_range c cmd) _ _ after_kind.1).0 steady.plain) (done_peer c cmd steady.peer)
+    moves_steady s h (done_plain cmd after_kind.0 (found_none (is_out_of_range c cmd) _ _ after_kind.1).0 steady.plain)
+    (done_peer c cmd steady.peer)
 
-commanded_steady : {c : Config} {eff : ℕ} (cmd : Cmd) (s : Course) → eff < moment_bound → IsSteady c s.vars → IsSteady c (commanded c eff cmd s).vars
+commanded_steady : {c : Config} {eff : ℕ} (cmd : Cmd) (s : Course) → eff < moment_bound → IsSteady c s.vars
+    → IsSteady c (commanded c eff cmd s).vars
 unfolding commanded
 commanded_steady {c} cmd s h steady = commanded_by cmd s (refusal c s.vars cmd) refl h steady
 
 -- the whole event
 
-back_moments : {eff : ℕ} (sequence : ℕ) (running echo : Option Echo) → eff < moment_bound → IfSome running HasMoments → IfSome echo HasMoments
+back_moments : {eff : ℕ} (sequence : ℕ) (running echo : Option Echo) → eff < moment_bound → IfSome running HasMoments
+    → IfSome echo HasMoments
     → IfSome (back_to eff sequence running echo) HasMoments
 back_moments sequence None echo h runs moments = moments
 back_moments {eff} sequence (Some e) echo h runs moments = returned_moments eff sequence e h runs
@@ -240,9 +264,11 @@ acted_steady {c} {eff} (Packet arrival) {f} h takes sized steady = record {
 }
 acted_steady {c} (Returned sequence) {f} h takes sized steady = record {
   vars = steady.vars;
-  moments = back_moments sequence (echoing c f.course.vars f.echo) f.echo h (echoing_moments c f.course.vars f.echo steady.moments) steady.moments;
+  moments = back_moments sequence (echoing c f.course.vars f.echo) f.echo h (echoing_moments c f.course.vars f.echo steady.moments)
+      steady.moments;
 }
-acted_steady (Command cmd) {f} h takes sized steady = record { vars = commanded_steady cmd f.course h steady.vars; moments = steady.moments }
+acted_steady (Command cmd) {f} h takes sized steady =
+    record { vars = commanded_steady cmd f.course h steady.vars; moments = steady.moments }
 acted_steady Show h takes sized steady = steady
 
 stamped_steady : {c : Config} {eff : ℕ} {v : Vars} → eff < moment_bound → IsSteady c v → IsSteady c (record v { at = eff })
@@ -272,7 +298,8 @@ head_vars c {eff} event f h steady = tree.head_tick_sound c eff eff f.course h s
 tail_vars : {c : TailConfig} {eff : ℕ} (event : Event) (f : Flow) → eff < moment_bound → HasSize (Tail c) event
     → IsTailSound c f.course.vars → IsTailSound c (step (Tail c) eff event f).course.vars
 unfolding step
-tail_vars {c} {eff} (Packet arrival) f h sized sound = tree.received_sound c eff arrival.payload _ h sized (tree.tail_settle_sound c eff f.course sound)
+tail_vars {c} {eff} (Packet arrival) f h sized sound =
+    tree.received_sound c eff arrival.payload _ h sized (tree.tail_settle_sound c eff f.course sound)
 tail_vars {c} {eff} (Command cmd) f h sized sound = tree.tail_commanded_sound c cmd _ (tree.tail_settle_sound c eff f.course sound)
 tail_vars {c} {eff} event f h sized sound = tree.tail_settle_sound c eff f.course sound
 
@@ -286,11 +313,14 @@ plain_sound IsVars none left vars = record {
 sound_after : (c : SessionConfig) (s : Running) {eff : ℕ} (event : Event) → eff < moment_bound → CanTake c event → HasSize c event
     → session.sound_by c s → session.sound_by c (left_by (step c eff event (begun (Some eff) s [])) s)
 sound_after (Pair c) s event h takes sized sound = pair_sound event h takes sized sound
-sound_after (Seek c) s {eff} event h takes sized sound = plain_sound (IsSeekSound c) sound.echoless (step_leaves (Seek c) eff event (begun (Some eff) s []) tt)
+sound_after (Seek c) s {eff} event h takes sized sound =
+    plain_sound (IsSeekSound c) sound.echoless (step_leaves (Seek c) eff event (begun (Some eff) s []) tt)
     (seek_vars event (begun (Some eff) s []) h sized (seek.stamped_steady c eff _ h sound.vars.steady))
-sound_after (Head c) s {eff} event h takes sized sound = plain_sound IsHeadSound sound.echoless (step_leaves (Head c) eff event (begun (Some eff) s []) tt)
+sound_after (Head c) s {eff} event h takes sized sound =
+    plain_sound IsHeadSound sound.echoless (step_leaves (Head c) eff event (begun (Some eff) s []) tt)
     (head_vars c event (begun (Some eff) s []) h (tree.head_stamped_steady eff _ h sound.vars.steady))
-sound_after (Tail c) s {eff} event h takes sized sound = plain_sound (IsTailSound c) sound.echoless (step_leaves (Tail c) eff event (begun (Some eff) s []) tt)
+sound_after (Tail c) s {eff} event h takes sized sound =
+    plain_sound (IsTailSound c) sound.echoless (step_leaves (Tail c) eff event (begun (Some eff) s []) tt)
     (tail_vars event (begun (Some eff) s []) h sized (tree.tail_stamped_sound c eff _ h sound.vars))
 
 pub own_sound : (s : Running) (eff : ℕ) (event : Event) → eff < moment_bound → CanTake s.config event → HasSize s.config event

@@ -1,5 +1,13 @@
 -- A tick keeps a session sound.
-use Rattle.bfd_session.proofs.Common.{◌≡◌, ◌^◌, ◌<◌, ◌&&◌, ◌↔◌, ℕ, Bool, true, false, refl, Option, None, Some, IsSome, IsTrue, IfSome, [], arith, rules, if◌then◌else◌, common_steps, State, Down, Up, SeqState, moment_bound, floor_tick, next_j, has_come, Config, Mark, Vars, deadline, seq_deadline, demand_here, may_send, tx_interval, is_idle, poll_again, poll_renewed, used_renewed, demand_renewed, renewed, Course, enters, changes, sends, draws, drawn, is_untold, based, redrawn, IsPlain, IsRenewed, HasPeerMult, IsSteady, renews, moves, transmits, failed, Echo, EchoResult, Nothing, Sent, Failed, HasMoments, outcome, SessionConfig, Pair, Running, Flow, left_by, should_echo, echoing, interval_of, settled_by, settled_running, settles_echo, goes_on, tick, tick_next, ticked_flow, begun, Seek, Head, Tail, option_map, pick, begun_moments, settled_moments}
+use Rattle.bfd_session.proofs.Common.{◌≡◌, ◌^◌, ◌<◌, ◌&&◌, ◌↔◌, ℕ, Bool, true, false, refl, Option, None, Some, IsSome, IsTrue, IfSome, []}
+use Rattle.bfd_session.proofs.Common.{arith, rules, if◌then◌else◌, common_steps, State, Down, Up, SeqState, moment_bound, floor_tick}
+use Rattle.bfd_session.proofs.Common.{next_j, has_come, Config, Mark, Vars, deadline, seq_deadline, demand_here, may_send, tx_interval}
+use Rattle.bfd_session.proofs.Common.{is_idle, poll_again, poll_renewed, used_renewed, demand_renewed, renewed, Course, enters, changes}
+use Rattle.bfd_session.proofs.Common.{sends, draws, drawn, is_untold, based, redrawn, IsPlain, IsRenewed, HasPeerMult, IsSteady, renews}
+use Rattle.bfd_session.proofs.Common.{moves, transmits, failed, Echo, EchoResult, Nothing, Sent, Failed, HasMoments, outcome, SessionConfig}
+use Rattle.bfd_session.proofs.Common.{Pair, Running, Flow, left_by, should_echo, echoing, interval_of, settled_by, settled_running}
+use Rattle.bfd_session.proofs.Common.{settles_echo, goes_on, tick, tick_next, ticked_flow, begun, Seek, Head, Tail, option_map, pick}
+use Rattle.bfd_session.proofs.Common.{begun_moments, settled_moments}
 use Rattle.bfd_rules.specs.declared.variables.Poll.{Poll}
 use Rattle.bfd_rules.specs.declared.variables.Poll.TheVariants.{Idle, Wanted}
 use Rattle.bfd_rules.specs.Sound.{IsSound}
@@ -35,19 +43,22 @@ used_renews : (v : Vars) → IsRenewed (used_renewed v)
 unfolding used_renewed
 used_renews v = grind (arith, common_steps)
 
-heard_plain : {c : Config} {eff : ℕ} {v : Vars} → eff < moment_bound → IsPlain c v → IsPlain c (record v { heard = option_map (λ _. eff) v.heard })
+heard_plain : {c : Config} {eff : ℕ} {v : Vars} → eff < moment_bound → IsPlain c v
+    → IsPlain c (record v { heard = option_map (λ _. eff) v.heard })
 heard_plain h plain = grind (arith, common_steps)
 
 again_plain : {c : Config} {v : Vars} → IsPlain c v → IsPlain c (record v { poll = poll_again v.poll })
 again_plain plain = grind (arith, common_steps)
 
 plain_by : {c : Config} {eff : ℕ} {v : Vars} (a b : Bool) → eff < moment_bound → IsPlain c v
-    → IsPlain c (if a then (if b then v else record v { heard = option_map (λ _. eff) v.heard }) else (if b then record v { poll = poll_again v.poll } else v))
+    → IsPlain c (if a then (if b then v else record v { heard = option_map (λ _. eff) v.heard }) else
+    (if b then record v { poll = poll_again v.poll } else v))
 plain_by true false h plain = heard_plain h plain
 plain_by false true h plain = again_plain plain
 plain_by a b h plain = plain
 
-pub demand_plain : {c : Config} {eff : ℕ} (before : Vars) {v : Vars} → eff < moment_bound → IsPlain c v → IsPlain c (demand_renewed eff before v)
+pub demand_plain : {c : Config} {eff : ℕ} (before : Vars) {v : Vars} → eff < moment_bound → IsPlain c v
+    → IsPlain c (demand_renewed eff before v)
 unfolding demand_renewed
 demand_plain before {v} h plain = plain_by (demand_here before) (demand_here v) h plain
 
@@ -71,7 +82,8 @@ heard_renews : (eff : ℕ) {v : Vars} → IsRenewed v → IsRenewed (record v { 
 heard_renews eff h = record { settled_tx = h.settled_tx; tx_at_most = h.tx_at_most; settled_rx = h.settled_rx; rx_at_least = h.rx_at_least }
 
 renews_by : (eff : ℕ) {v : Vars} (a b : Bool) → IsRenewed v
-    → IsRenewed (if a then (if b then v else record v { heard = option_map (λ _. eff) v.heard }) else (if b then record v { poll = poll_again v.poll } else v))
+    → IsRenewed (if a then (if b then v else record v { heard = option_map (λ _. eff) v.heard }) else
+    (if b then record v { poll = poll_again v.poll } else v))
 renews_by eff true false h = heard_renews eff h
 renews_by eff false true h = again_renews h
 renews_by eff a b h = h
@@ -80,7 +92,8 @@ demand_renews : (eff : ℕ) (before : Vars) {v : Vars} → IsRenewed v → IsRen
 unfolding demand_renewed
 demand_renews eff before {v} h = renews_by eff (demand_here before) (demand_here v) h
 
-renewed_steady : {c : Config} {eff : ℕ} (before : Vars) {v : Vars} → eff < moment_bound → IsPlain c v → HasPeerMult v → IsSteady c (renewed eff before v)
+renewed_steady : {c : Config} {eff : ℕ} (before : Vars) {v : Vars} → eff < moment_bound → IsPlain c v → HasPeerMult v
+    → IsSteady c (renewed eff before v)
 unfolding renewed
 renewed_steady {eff} before {v} h plain peer = record {
   plain = demand_plain before h (used_plain (poll_plain before plain));
@@ -90,11 +103,13 @@ renewed_steady {eff} before {v} h plain peer = record {
 
 -- settling
 
-pub renews_steady : {c : Config} {eff : ℕ} {v : Vars} (s : Course) → eff < moment_bound → IsPlain c v → HasPeerMult v → IsSteady c (renews eff v s).vars
+pub renews_steady : {c : Config} {eff : ℕ} {v : Vars} (s : Course) → eff < moment_bound → IsPlain c v → HasPeerMult v
+    → IsSteady c (renews eff v s).vars
 unfolding renews
 renews_steady s h plain peer = renewed_steady s.vars h plain peer
 
-pub moves_steady : {c : Config} {eff : ℕ} {v : Vars} (s : Course) → eff < moment_bound → IsPlain c v → HasPeerMult v → IsSteady c (moves c.discr eff v s).vars
+pub moves_steady : {c : Config} {eff : ℕ} {v : Vars} (s : Course) → eff < moment_bound → IsPlain c v → HasPeerMult v
+    → IsSteady c (moves c.discr eff v s).vars
 unfolding moves changes
 moves_steady s h plain peer = renewed_steady s.vars h plain peer
 
@@ -108,7 +123,8 @@ silent_plain h = grind (arith, common_steps)
 silent_peer : {v : Vars} → HasPeerMult v → HasPeerMult (settling.goes_silent (settling.forgets_peer v))
 silent_peer h = grind (arith, common_steps)
 
-detection_steady : {c : Config} (limit : ℕ) {eff : ℕ} (s : Course) → eff < moment_bound → IsSteady c s.vars → IsSteady c (settling.detection c limit eff s).vars
+detection_steady : {c : Config} (limit : ℕ) {eff : ℕ} (s : Course) → eff < moment_bound → IsSteady c s.vars
+    → IsSteady c (settling.detection c limit eff s).vars
 unfolding settling.detection
 detection_steady {c} limit {eff} s h steady =
     choice_steady (has_come limit (deadline s.vars)) (moves c.discr eff (settling.goes_silent (settling.forgets_peer s.vars)) s) s
@@ -120,9 +136,11 @@ forgotten_plain h = grind (arith, common_steps)
 forgotten_peer : {v : Vars} → HasPeerMult v → HasPeerMult (settling.forgets_sequence v)
 forgotten_peer h = grind (arith, common_steps)
 
-sequence_steady : {c : Config} (limit : ℕ) {eff : ℕ} (s : Course) → eff < moment_bound → IsSteady c s.vars → IsSteady c (settling.sequence limit eff s).vars
+sequence_steady : {c : Config} (limit : ℕ) {eff : ℕ} (s : Course) → eff < moment_bound → IsSteady c s.vars
+    → IsSteady c (settling.sequence limit eff s).vars
 unfolding settling.sequence
-sequence_steady limit {eff} s h steady = choice_steady (has_come limit (seq_deadline s.vars)) (renews eff (settling.forgets_sequence s.vars) s) s
+sequence_steady limit {eff} s h steady = choice_steady (has_come limit (seq_deadline s.vars))
+    (renews eff (settling.forgets_sequence s.vars) s) s
     (renews_steady s h (forgotten_plain steady.plain) (forgotten_peer steady.peer)) steady
 
 -- what a packet makes of the variables besides the sequence state
@@ -131,50 +149,66 @@ told_plain : {c : Config} {eff : ℕ} (seq : SeqState) {v : Vars} → eff < mome
     → IsPlain c (record v { seq = seq; poll = settling.poll_sent eff v.poll; base = eff })
 told_plain seq h plain = grind (arith, common_steps)
 
-told_peer : (eff : ℕ) (seq : SeqState) {v : Vars} → HasPeerMult v → HasPeerMult (record v { seq = seq; poll = settling.poll_sent eff v.poll; base = eff })
+told_peer : (eff : ℕ) (seq : SeqState) {v : Vars} → HasPeerMult v
+    → HasPeerMult (record v { seq = seq; poll = settling.poll_sent eff v.poll; base = eff })
 told_peer eff seq h = grind (arith, common_steps)
 
-periodic_packet_steady : {c : Config} {eff : ℕ} (s : Course) → eff < moment_bound → IsSteady c s.vars → IsSteady c (settling.periodic_packet c eff s).vars
+periodic_packet_steady : {c : Config} {eff : ℕ} (s : Course) → eff < moment_bound → IsSteady c s.vars
+    → IsSteady c (settling.periodic_packet c eff s).vars
 unfolding settling.periodic_packet renews transmits sends
 periodic_packet_steady {eff} s h steady = renewed_steady s.vars h (told_plain _ h steady.plain) (told_peer eff _ steady.peer)
 
-periodic_steady : {c : Config} (limit : ℕ) {eff : ℕ} (s : Course) → eff < moment_bound → IsSteady c s.vars → IsSteady c (settling.periodic c limit eff s).vars
+periodic_steady : {c : Config} (limit : ℕ) {eff : ℕ} (s : Course) → eff < moment_bound → IsSteady c s.vars
+    → IsSteady c (settling.periodic c limit eff s).vars
 unfolding settling.periodic
 periodic_steady {c} limit {eff} s h steady =
     choice_steady (has_come (floor_tick limit) s.vars.tx_due && may_send c.active s.vars) (settling.periodic_packet c eff s) s
     (periodic_packet_steady s h steady) steady
 
-settle_steady : {c : Config} (limit : ℕ) {eff : ℕ} (s : Course) → eff < moment_bound → IsSteady c s.vars → IsSteady c (settling.settle c limit eff s).vars
+settle_steady : {c : Config} (limit : ℕ) {eff : ℕ} (s : Course) → eff < moment_bound → IsSteady c s.vars
+    → IsSteady c (settling.settle c limit eff s).vars
 unfolding settling.settle
 settle_steady {c} limit {eff} s h steady = periodic_steady limit (settling.sequence limit eff (settling.detection c limit eff s)) h
     (sequence_steady limit (settling.detection c limit eff s) h (detection_steady limit s h steady))
 
 -- the end of an event
 
-based_steady : {c : Config} {eff : ℕ} (seq : SeqState) {v : Vars} → eff < moment_bound → IsSteady c v → IsSteady c (record v { seq = seq; base = eff })
+based_steady : {c : Config} {eff : ℕ} (seq : SeqState) {v : Vars} → eff < moment_bound → IsSteady c v
+    → IsSteady c (record v { seq = seq; base = eff })
 based_steady seq h steady = grind (arith, common_steps)
 
 extra_steady : {c : Config} {eff : ℕ} (s : Course) → eff < moment_bound → IsSteady c s.vars → IsSteady c (finishing.extra c eff s).vars
 unfolding finishing.extra transmits sends
-extra_steady {c} {eff} s h steady = choice_steady (is_untold c.active s.mark s.vars) (based eff (transmits c false false s)) s (based_steady _ h steady) steady
+extra_steady {c} {eff} s h steady = choice_steady (is_untold c.active s.mark s.vars) (based eff (transmits c false false s)) s
+    (based_steady _ h steady) steady
 
 interval_few : {c : Config} {v : Vars} → IsSteady c v → tx_interval v < 2 ^ 32
 interval_few steady = grind (arith, common_steps)
 
-due_plain : {c : Config} {v : Vars} (due : Option ℕ) (j : ℕ) → IfSome due (λ t. t < moment_bound) → IsPlain c v → IsPlain c (record v { tx_due = due; j = j })
+due_plain : {c : Config} {v : Vars} (due : Option ℕ) (j : ℕ) → IfSome due (λ t. t < moment_bound) → IsPlain c v
+    → IsPlain c (record v { tx_due = due; j = j })
 due_plain due j h plain = grind (arith, common_steps)
 
-due_steady : {c : Config} {v : Vars} (due : Option ℕ) (j : ℕ) → IfSome due (λ t. t < moment_bound) → IsSteady c v → IsSteady c (record v { tx_due = due; j = j })
+due_steady : {c : Config} {v : Vars} (due : Option ℕ) (j : ℕ) → IfSome due (λ t. t < moment_bound) → IsSteady c v
+    → IsSteady c (record v { tx_due = due; j = j })
 due_steady due j h steady = record {
   plain = due_plain due j h steady.plain;
-  renewed = record { settled_tx = steady.renewed.settled_tx; tx_at_most = steady.renewed.tx_at_most; settled_rx = steady.renewed.settled_rx; rx_at_least = steady.renewed.rx_at_least };
+  renewed = record {
+    settled_tx = steady.renewed.settled_tx;
+    tx_at_most = steady.renewed.tx_at_most;
+    settled_rx = steady.renewed.settled_rx;
+    rx_at_least = steady.renewed.rx_at_least;
+  };
   peer = record { heard_mult = steady.peer.heard_mult; seq_mult = steady.peer.seq_mult };
 }
 
-drawn_by : {c : Config} (m : Mark) {v : Vars} (may anew : Bool) → may_send c.active v ≡ may → draws m v ≡ anew → IsSteady c v → IsSound c (if may
-    then (if anew then record v { tx_due = Some (pick v.base (tx_interval v) v.mult v.j); j = next_j v.j } else v) else record v { tx_due = None })
+drawn_by : {c : Config} (m : Mark) {v : Vars} (may anew : Bool) → may_send c.active v ≡ may → draws m v ≡ anew → IsSteady c v
+    → IsSound c (if may
+    then (if anew then record v { tx_due = Some (pick v.base (tx_interval v) v.mult v.j); j = next_j v.j } else v) else record
+    v { tx_due = None })
 drawn_by m {v} true true is anew steady = record {
-  steady = due_steady (Some (pick v.base (tx_interval v) v.mult v.j)) (next_j v.j) (picked_below v (interval_few steady) steady.plain.base_below) steady;
+  steady = due_steady (Some (pick v.base (tx_interval v) v.mult v.j)) (next_j v.j)
+      (picked_below v (interval_few steady) steady.plain.base_below) steady;
   due = (λ _. is, λ _. refl);
 }
 drawn_by m {v} true false is anew steady = record { steady = steady; due = (λ _. is, λ _. stands_there m v anew) }
@@ -201,7 +235,8 @@ pub enters_plain : {c : Config} (state : State) (diag : ℕ) {v : Vars} → diag
     → IsPlain c (enters state diag v)
 enters_plain state diag few up plain = grind (arith, common_steps)
 
-failed_steady : {c : Config} {eff : ℕ} (s : Course) → eff < moment_bound → IsSteady c s.vars → IsSteady c (moves c.discr eff (failed 2 s.vars) s).vars
+failed_steady : {c : Config} {eff : ℕ} (s : Course) → eff < moment_bound → IsSteady c s.vars
+    → IsSteady c (moves c.discr eff (failed 2 s.vars) s).vars
 failed_steady s h steady = moves_steady s h (enters_plain Down 2 (omega arith) (λ up. cc) steady.plain)
     record { heard_mult = steady.peer.heard_mult; seq_mult = steady.peer.seq_mult }
 
@@ -217,7 +252,8 @@ settled_running_steady : {c : Config} (limit : ℕ) {eff : ℕ} (echo : Option E
 settled_running_steady limit None h moments steady = steady
 settled_running_steady {c} limit {eff} (Some e) {f} h moments steady =
     let v : Vars = f.course.vars in
-    settled_by_steady (outcome limit (interval_of v) v.mult c.discr e) h (settled_moments limit eff (interval_of v) v.mult e h moments) steady
+    settled_by_steady (outcome limit (interval_of v) v.mult c.discr e) h (settled_moments limit eff (interval_of v) v.mult e h moments)
+    steady
 
 running_moments : (b : Bool) (echo : Option Echo) → IfSome echo HasMoments → IfSome (if b then echo else None) HasMoments
 running_moments true echo moments = moments
@@ -226,14 +262,16 @@ running_moments false echo moments = tt
 pub echoing_moments : (c : Config) (v : Vars) (echo : Option Echo) → IfSome echo HasMoments → IfSome (echoing c v echo) HasMoments
 echoing_moments c v echo moments = running_moments (should_echo c v) echo moments
 
-settles_echo_steady : {c : Config} (limit : ℕ) {eff : ℕ} {f : Flow} → eff < moment_bound → IsPairSteady c f → IsPairSteady c (settles_echo c limit eff f)
+settles_echo_steady : {c : Config} (limit : ℕ) {eff : ℕ} {f : Flow} → eff < moment_bound → IsPairSteady c f
+    → IsPairSteady c (settles_echo c limit eff f)
 unfolding settles_echo
 settles_echo_steady {c} limit {f} h steady =
     settled_running_steady limit (echoing c f.course.vars f.echo) h (echoing_moments c f.course.vars f.echo steady.moments) steady
 
 pub pair_settled_steady : (c : Config) (limit : ℕ) {eff : ℕ} (f : Flow) → eff < moment_bound → IsPairSteady c f
     → IsPairSteady c (session.settled (Pair c) limit eff f)
-pair_settled_steady c limit f h steady = settles_echo_steady limit h record { vars = settle_steady limit f.course h steady.vars; moments = steady.moments }
+pair_settled_steady c limit f h steady = settles_echo_steady limit h
+    record { vars = settle_steady limit f.course h steady.vars; moments = steady.moments }
 
 -- at the end of an event it runs exactly where it should
 
@@ -241,7 +279,8 @@ turned_there : (should : Bool) (e : Echo) → IsSome (if should then Some e else
 turned_there true e = (λ h. refl, λ h. refl)
 turned_there false e = (λ h. cc, λ h. cc)
 
-goes_on_moments : {eff : ℕ} (next : ℕ) (echo : Option Echo) → eff < moment_bound → IfSome echo HasMoments → HasMoments (goes_on eff next echo)
+goes_on_moments : {eff : ℕ} (next : ℕ) (echo : Option Echo) → eff < moment_bound → IfSome echo HasMoments
+    → HasMoments (goes_on eff next echo)
 goes_on_moments {eff} next None h moments = begun_moments eff next h
 goes_on_moments next (Some e) h moments = moments
 

@@ -1,5 +1,7 @@
 -- What a session starts with: a point-to-point one is Down, so without an Echo function.
-use Rattle.bfd_session.proofs.Common.{◌≡◌, ◌&&◌, Bool, true, false, refl, None, IsTrue, ◌↔◌, List, [], ◌∷◌, map, Down, Config, Vars, begins, Machine, initial, made, is_echo_wanted, SessionConfig, should_echo, pair_of, IsPairSound, started, configs_of, is_single}
+use Rattle.bfd_session.proofs.Common.{◌≡◌, ◌&&◌, Bool, true, false, refl, None, IsTrue, ◌↔◌, List, [], ◌∷◌, map, Down, Config, Vars, begins}
+use Rattle.bfd_session.proofs.Common.{Machine, initial, made, is_echo_wanted, SessionConfig, should_echo, pair_of, IsPairSound, started}
+use Rattle.bfd_session.proofs.Common.{configs_of, is_single}
 use Rattle.bfd_rules.specs.Sound.{IsSound}
 use Rattle.bfd_session.proofs.Renewing.{drawn_state}
 
@@ -19,7 +21,8 @@ neither : (b : Bool) → b ≡ false → false ≡ true ↔ IsTrue b
 neither true h = cc
 neither false h = (λ x. x, λ x. x)
 
-pub starts_sound : (m : Machine) (c : Config) → m.config ≡ c → m.vars ≡ made c → IsSound m.config m.vars → IsPairSound m.config (pair_of m None 0)
+pub starts_sound : (m : Machine) (c : Config) → m.config ≡ c → m.vars ≡ made c → IsSound m.config m.vars
+    → IsPairSound m.config (pair_of m None 0)
 starts_sound m c config vars sound = record {
   vars = sound;
   echoes = neither (should_echo m.config m.vars) (cc (down_silent c (made c) (made_down c)));

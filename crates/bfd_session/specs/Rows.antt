@@ -7,7 +7,8 @@ use Rattle.bfd_rules.specs.declared.config.Role.TheVariants.{Single, Multi}
 use Rattle.bfd_sbfd.specs.declared.reflecting.Reflector.{Reflector}
 use Rattle.bfd_demux.specs.declared.row.Row.{Row}
 use Rattle.bfd_demux.specs.declared.row.RowKind.{RowKind}
-use Rattle.bfd_demux.specs.declared.row.RowKind.TheVariants.{Single as SingleRow, Multi as MultiRow, Seek as SeekRow, Reflect as ReflectRow, Head as HeadRow, Tail as TailRow}
+use Rattle.bfd_demux.specs.declared.row.RowKind.TheVariants.{Single as SingleRow, Multi as MultiRow, Seek as SeekRow, Reflect as ReflectRow}
+use Rattle.bfd_demux.specs.declared.row.RowKind.TheVariants.{Head as HeadRow, Tail as TailRow}
 use Rattle.bfd_demux.specs.Rows.{same_addresses}
 use Rattle.bfd_session.specs.declared.event.SessionConfig.{SessionConfig}
 use Rattle.bfd_session.specs.declared.event.SessionConfig.TheVariants.{Pair, Seek, Head, Tail}

@@ -1,9 +1,9 @@
-//! What an arrival comes to.
+//! What an arrival resolves to.
 use crate::Event;
 use bfd_packet::Test;
 use bfd_rules::Out;
 
-/// What an arrival comes to, of the table alone (RFC 5880 section 6.8.6).
+/// What an arrival resolves to, of the table alone (RFC 5880 section 6.8.6).
 #[derive(Drop)]
 pub enum Coming {
     /// A test discards it, and it is no event of any session: one up to selection, or one of a reflector's (RFC 7880 section 7.2).
@@ -14,7 +14,7 @@ pub enum Coming {
     Own(u32, Event),
 }
 
-/// What an arrival comes to, where the arrival itself stays with its owner.
+/// What an arrival resolves to, where the arrival itself stays with its owner.
 #[derive(Drop)]
 pub enum Reached {
     /// As a `Coming` that is discarded.

@@ -67,7 +67,7 @@ pub fn settles_echo(
     }
 }
 
-/// Takes an echo packet that came back: whether its number was awaited.
+/// Receives an echo packet that came back: whether its number was awaited.
 pub fn takes_back(p: &P2p, echo: &mut Option<Echo>, eff: u64, sequence: u32) -> bool
     requires eff { eff < moment_bound }
     requires moments { IfSome echo.old HasMoments }

@@ -39,7 +39,7 @@ pub struct Shown {
     pub state: State,
     pub diag: u8,
     pub remote_state: State,
-    /// The Poll Sequence: 0 none, 1 wanted, 2 running.
+    /// The Poll Sequence: 0 none, 1 requested, 2 running.
     pub poll: u8,
     pub remote_discr: u32,
     /// The Desired Min TX Interval that is advertised.
@@ -55,7 +55,7 @@ pub struct Shown {
 /// What an event of a session answers.
 #[derive(Clone, Copy, Debug, PartialEq, Eq)]
 pub enum Answer {
-    /// The packet or the command was taken.
+    /// The packet or the command was accepted.
     Handled,
     /// A tick has passed.
     Ticked,

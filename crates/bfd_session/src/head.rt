@@ -44,7 +44,7 @@ fn acts(h: &mut Head, eff: u64, event: &Event, mark: &mut Mark, outs: &mut Outs)
     }
 }
 
-/// An own event, from what was put out before it.
+/// An own event, from what was emitted before it.
 #[tactic(auto, unfolding(crate::specs::Step::step))]
 fn runs(h: &mut Head, eff: u64, event: &Event, outs: &mut Outs) -> Answer
     requires eff { eff < moment_bound }
@@ -82,7 +82,7 @@ pub fn steps(h: &mut Head, eff: u64, event: &Event, outs: &mut Outs) -> Answer
     runs(h, eff, event, outs)
 }
 
-/// A tick with this limit, from what was put out before it.
+/// A tick with this limit, from what was emitted before it.
 #[tactic(auto, unfolding(crate::specs::Step::tick))]
 fn passes(h: &mut Head, limit: u64, eff: u64, outs: &mut Outs)
     requires sound { IsHeadSound h.old.vars }

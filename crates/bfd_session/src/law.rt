@@ -17,10 +17,10 @@ ghost use Rattle.bfd_session.specs.Due.{due, detects};
 ghost use Rattle.bfd_rules.specs.Names.{named};
 ghost use Rattle.bfd_session.specs.Step.{IsSound, CanTake, HasSize, verdict_by, tick_next, tick_emits, next, emits, reply};
 
-/// Laws, and no work: for every sound session, a tick by which nothing is due leaves it as it is and puts nothing out, so
+/// Laws, and no work: for every sound session, a tick by which nothing is due leaves it as it is and emits nothing, so
 /// a caller may hand a tick to the due sessions alone; every tick keeps a session sound; its last own event was at a
-/// moment; all that a tick of any session puts out names that session; a tick forgets that a packet was heard exactly
-/// where the Detection Time has expired by its limit; and that time runs only where a packet was heard.
+/// moment; all that a tick of any session emits names that session; a tick forgets that a packet was heard if and
+/// only if the Detection Time has expired by its limit; and that time runs only where a packet was heard.
 #[tactic(auto, using(crate::proofs::Rest::rest_session, crate::proofs::Rest::rest_outs, crate::proofs::Soundness::tick_sound, crate::proofs::Soundness::at_sound, crate::proofs::Naming::tick_named, crate::proofs::Expiring::tick_expires, crate::proofs::Expiring::detects_heard))]
 pub fn tick_laws()
     ensures session { (s : Running) (t eff : ℕ) → IsSound s → has_come t (due s) ≡ false
@@ -36,9 +36,9 @@ pub fn tick_laws()
     ensures heard { (s : Running) → IsSound s → IsSome (detects s) → IsSome s.vars.heard }
 {}
 
-/// Laws of own events, and no work: all that an own event of any session puts out names that session; and every own event
-/// that a session can take keeps it sound. The first test that discards an arrival is the first of the table, or else the
-/// first of the session, and that is the one that its verdict tells of; a packet is answered by the first test of the
+/// Laws of own events, and no work: all that an own event of any session emits names that session; and every own event
+/// that a session can accept keeps it sound. The first test that discards an arrival is the first of the table, or else the
+/// first of the session, and that is the one that its verdict names; a packet is answered by the first test of the
 /// session that fails over the variables after settling, and handled where none does.
 #[tactic(auto, using(crate::proofs::Naming::event_named, crate::proofs::Own::own_sound, crate::proofs::Discarding::discards_first, crate::proofs::Discarding::verdict_first, crate::proofs::Discarding::reply_first))]
 pub fn event_laws()

@@ -3,7 +3,8 @@ ghost use Rattle.std.specs.Prelude.{◌≡◌, ◌<◌, ◌≤◌, ◌+◌, ◌*
 ghost use Rattle.bfd_num.specs.Numbers.{moment_bound};
 ghost use Rattle.bfd_num.specs.Due.{has_come};
 ghost use Rattle.bfd_rules.specs.declared.outputs.Out.{Out};
-ghost use Rattle.bfd_rules.specs.EventFrame.{course, begins};
+ghost use Rattle.bfd_rules.specs.EventFrame.{course, begins, tells};
+ghost use Rattle.bfd_rules.specs.Sound.{IsSound as IsVarsSound};
 ghost use Rattle.bfd_p2p.specs.Over.{IsBegun, IsOver, IsSettled};
 ghost use Rattle.bfd_echo.specs.Rules.{HasMoments};
 ghost use Rattle.bfd_session.specs.declared.event.SessionConfig.TheVariants.{Pair};
@@ -152,8 +153,8 @@ fn hears_again(p: &mut P2p, echo: &Option<Echo>, eff: u64, event: &Event) -> boo
     }
 }
 
-/// An own event, from what was put out before it. At most three outputs are those of settling, and two of the event and its
-/// end together: a packet with F tells the state, so nothing more is told. (Apart from `steps`: this opens the definition that
+/// An own event, from what was emitted before it. At most three outputs are those of settling, and two of the event and its
+/// end together: a packet with F sends the state, so nothing more is sent. (Apart from `steps`: this opens the definition that
 /// a law of `steps` is about.)
 #[tactic(auto, unfolding(crate::specs::Step::step))]
 fn runs(
@@ -216,7 +217,31 @@ pub fn steps(
     runs(p, echo, next, eff, event, outs)
 }
 
-/// A tick with this limit, from what was put out before it. (Apart from `ticks`, as `runs` is from `steps`.)
+/// Whether a periodic packet is all that is due by the limit; then that is all of the tick (`P2p::beats`). Else nothing is done.
+#[tactic(auto, using(crate::proofs::Beating::beat_tick, crate::proofs::Beating::none_over))]
+fn beats(p: &mut P2p, echo: &Option<Echo>, limit: u64, eff: u64, outs: &mut Outs) -> bool
+    requires sound { IsVarsSound p.old.config p.old.vars }
+    requires eff { eff < moment_bound }
+    requires room { 1 ≤ outs.old.spare }
+    ensures config { p.new.config ≡ p.old.config }
+    ensures rests { result ≡ false → p.new ≡ p.old }
+    ensures rests_outs { result ≡ false → outs.new ≡ outs.old }
+    ensures flow { result ≡ true → (next : ℕ) → session.tick (Pair p.old.config) limit eff
+        (session.begun None (pair_of p.old echo.now next) outs.old.items)
+        ≡ flow (course p.new.vars (tells p.old.vars (begins p.old.vars)) outs.new.items) echo.now next }
+    ensures over { result ≡ true → limit ≤ eff → IsOver limit p.new.vars }
+    ensures echo_over { result ≡ true → IsEchoOver limit p.new.config p.new.vars echo.now }
+    ensures sound { result ≡ true → (next : ℕ) → IsPairSound p.new.config (pair_of p.new echo.now next) }
+    ensures spare { outs.old.spare ≤ outs.new.spare + 1 }
+    ensures room { outs.new.room ≡ outs.old.room }
+{
+    match echo {
+        None => p.beats(limit, eff, outs),
+        Some(_) => false,
+    }
+}
+
+/// A tick with this limit, from what was emitted before it. (Apart from `ticks`, as `runs` is from `steps`.)
 #[tactic(auto, unfolding(crate::specs::Step::tick))]
 fn passes(
     p: &mut P2p,
@@ -242,6 +267,9 @@ fn passes(
     ensures spare { outs.old.spare ≤ outs.new.spare + 4 }
     ensures room { outs.new.room ≡ outs.old.room }
 {
+    if beats(p, echo, limit, eff, outs) {
+        return;
+    }
     let mut kept = p.begin(None);
     settles(p, echo, limit, eff, &mut kept, outs);
     finishes(p, echo, next, eff, kept, outs);

@@ -1,4 +1,4 @@
-//! The rows by which arrivals are told, one for each session and each reflector.
+//! The rows by which arrivals are selected, one for each session and each reflector.
 ghost use Rattle.std.specs.Prelude.{◌≡◌, IfOk, map};
 ghost use Rattle.bfd_session.specs.Rows as rows;
 
@@ -9,7 +9,7 @@ use bfd_sbfd::Reflector;
 use std::alloc::{AllocError, Global};
 
 /// The row of a session: over a single hop its interface counts among its addresses, over several it doesn't (RFC 5881
-/// section 3, RFC 5883 section 4); a tail is told by its head, interface, group and source (RFC 8562 section 5.7), an
+/// section 3, RFC 5883 section 4); a tail is selected by its head, interface, group and source (RFC 8562 section 5.7), an
 /// initiator and a head by no addresses.
 pub fn row_of(config: &SessionConfig) -> Row
     ensures { result ≡ rows.row_of config.now }

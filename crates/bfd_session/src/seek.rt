@@ -46,7 +46,7 @@ fn acts(i: &mut Initiator, eff: u64, event: &Event, mark: &mut Mark, outs: &mut 
     }
 }
 
-/// An own event, from what was put out before it.
+/// An own event, from what was emitted before it.
 #[tactic(auto, unfolding(crate::specs::Step::step))]
 fn runs(i: &mut Initiator, eff: u64, event: &Event, outs: &mut Outs) -> Answer
     requires eff { eff < moment_bound }
@@ -84,7 +84,7 @@ pub fn steps(i: &mut Initiator, eff: u64, event: &Event, outs: &mut Outs) -> Ans
     runs(i, eff, event, outs)
 }
 
-/// A tick with this limit, from what was put out before it.
+/// A tick with this limit, from what was emitted before it.
 #[tactic(auto, unfolding(crate::specs::Step::tick))]
 fn passes(i: &mut Initiator, limit: u64, eff: u64, outs: &mut Outs)
     requires sound { IsSeekSound i.old.config i.old.vars }

@@ -134,7 +134,7 @@ impl Session {
 
     /// An own event at its effective moment `eff`, in microseconds: what has come due by it is done, then the event's
     /// own rules, then the event ends (RFC 5880 section 6.8). The event is one that `takes` says yes to. Adds at most
-    /// five outputs. Takes no memory.
+    /// five outputs. Allocates no memory.
     pub fn step(&mut self, eff: u64, event: &Event, outs: &mut Outs) -> Answer
         requires eff { eff < moment_bound }
         requires takes { CanTake self.old.config event.now }
@@ -157,7 +157,7 @@ impl Session {
 
     /// A tick: what has come due by `limit`, in microseconds, is done at the effective moment `eff`. A tick before
     /// `due` changes and adds nothing; after one with the limit of tick t nothing that is due by t is left. Adds at
-    /// most five outputs. Takes no memory.
+    /// most five outputs. Allocates no memory.
     #[tactic(auto, using(crate::proofs::Rest::limit_session, crate::proofs::Rest::limit_outs))]
     pub fn tick(&mut self, limit: u64, eff: u64, outs: &mut Outs)
         requires eff { eff < moment_bound }
@@ -181,7 +181,7 @@ impl Session {
     }
 
     /// The tick that the session needs next: the least of its due ticks, or None where it has none (RFC 5880 sections
-    /// 6.8.1, 6.8.4, 6.8.5, 6.8.7 and 6.8.9). It may lie at or below the last tick; the next tick then does it. Takes no memory.
+    /// 6.8.1, 6.8.4, 6.8.5, 6.8.7 and 6.8.9). It may lie at or below the last tick; the next tick then does it. Allocates no memory.
     pub fn due(&self) -> Option<u64>
         ensures value { result ≡ due.due self.now }
         ensures below { IfSome result (λ t. t < moment_bound) }

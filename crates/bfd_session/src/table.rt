@@ -18,6 +18,7 @@ ghost use Rattle.bfd_session.specs.declared.event.Event.{Event as EventIn};
 ghost use Rattle.bfd_session.specs.declared.event.SessionConfig.{SessionConfig as ConfigIn};
 ghost use Rattle.bfd_demux.specs.Selection.{first_header_failing, first_table_failing, target_of, fields_on};
 ghost use Rattle.std.specs.Result.{result_err};
+ghost use Rattle.bfd_num.specs.Counting.{IsBlankOf};
 
 use crate::{Coming, Event, Reached, SessionConfig, row_of, row_of_reflector, table_of};
 use bfd_demux::{AddFault, BuildFault, Demux, Target};
@@ -193,6 +194,7 @@ impl Table {
         ensures climbs { reflecting.Ascends self.now.pool }
         ensures few { length self.now.configs ≤ 65536 }
     {
+        // proof: the read brings the invariant
         let _ = &self.roster;
         self.pool.as_slice()
     }
@@ -208,7 +210,7 @@ impl Table {
         self.demux.screen(arrival, steps)
     }
 
-    /// The place of the session with this discriminator; a reflector's names no session. An event that every session takes may be
+    /// The place of the session with this discriminator; a reflector's names no session. An event that every session accepts may be
     /// given to it.
     pub fn place_of(&self, discr: u32) -> Option<u32>
         ensures value { result ≡ rows.place_of discr self.now.configs }
@@ -238,7 +240,7 @@ impl Table {
         }
     }
 
-    // What a selected arrival comes to.
+    // What a selected arrival resolves to.
     fn direct(&self, target: Target, arrival: &Arrival, fields: &Option<Control>) -> Reached
         requires reaches { Reaches self.now.configs self.now.pool arrival.now target }
         requires fields { fields.now ≡ fields_on arrival.now.port arrival.now }
@@ -252,7 +254,7 @@ impl Table {
         }
     }
 
-    /// What the arrival comes to, as `comes_to` says it.
+    /// What the arrival resolves to, as `comes_to` says it.
     pub fn reach<L: Ledger>(&self, arrival: &Arrival, steps: &mut Steps<L>) -> Reached
         ensures coming { IsComing self.now.configs self.now.pool arrival.now
             (arrivals.comes_to (rows.table_of self.now.configs self.now.pool) arrival.now) (coming_of arrival.now result) }
@@ -264,9 +266,9 @@ impl Table {
         }
     }
 
-    /// What the arrival comes to. One that fails a test up to selection is discarded by the first that it fails, as `Demux::screen`
+    /// What the arrival resolves to. One that fails a test up to selection is discarded by the first that it fails, as `Demux::screen`
     /// has them; a packet for a reflector is answered by it, or discarded by the first of its tests that fails; and any other is an
-    /// own event of a session, which takes it. It takes no memory, and at most 34 steps, each the look at one entry of a sorted
+    /// own event of a session, which accepts it. It allocates no memory. It takes at most 34 steps, each the look at one entry of a sorted
     /// table.
     pub fn comes_to<L: Ledger>(&self, arrival: Arrival, steps: &mut Steps<L>) -> Coming
         ensures coming { IsComing self.now.configs self.now.pool arrival
@@ -323,7 +325,7 @@ impl Table {
     }
 
     /// Removes the session with this discriminator, and says the place at which it stood: each after it stands one place earlier, and
-    /// all else stays. None where no session has it. It takes no memory. The time is linear in the sessions and reflectors.
+    /// all else stays. None where no session has it. It allocates no memory. The time is linear in the sessions and reflectors.
     pub fn remove(&mut self, discr: u32) -> Option<u32>
         ensures value { result ≡ rows.place_of discr self.old.configs }
         ensures table { self.new ≡ without_session discr self.old }
@@ -357,7 +359,7 @@ impl Table {
         }
     }
 
-    /// Removes the reflector with this discriminator, and leaves all else: whether there was one. It takes no memory.
+    /// Removes the reflector with this discriminator, and leaves all else: whether there was one. It allocates no memory.
     pub fn remove_reflector(&mut self, discr: u32) -> bool
         ensures value { result ≡ list_any (λ reflector. reflector.discr == discr) self.old.pool }
         ensures table { self.new ≡ without_pooled discr self.old }
@@ -371,7 +373,7 @@ impl Table {
     }
 }
 
-// What an arrival comes to that reaches this.
+// What an arrival resolves to that reaches this.
 fn coming(reached: Reached, arrival: Arrival) -> Coming
     ensures { result ≡ coming_of arrival reached }
 {
@@ -385,9 +387,7 @@ fn coming(reached: Reached, arrival: Arrival) -> Coming
 
 // What an arrival reaches, with this counter.
 fn reached<L: Ledger>(table: &Table, arrival: &Arrival, blank: Blank) -> Reached
-    requires name { blank.name ≡ L.name }
-    requires parts { blank.parts ≡ L.parts }
-    requires some { 0 < blank.parts }
+    requires blank { IsBlankOf L.name L.parts blank.name blank.parts }
     ensures { IsComing table.now.configs table.now.pool arrival.now
         (arrivals.comes_to (rows.table_of table.now.configs table.now.pool) arrival.now) (coming_of arrival.now result) }
 {

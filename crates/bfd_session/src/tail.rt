@@ -46,7 +46,7 @@ fn acts(tail: &mut Tail, eff: u64, event: &Event, mark: &mut Mark, outs: &mut Ou
     }
 }
 
-/// An own event, from what was put out before it.
+/// An own event, from what was emitted before it.
 #[tactic(auto, unfolding(crate::specs::Step::step))]
 fn runs(tail: &mut Tail, eff: u64, event: &Event, outs: &mut Outs) -> Answer
     requires eff { eff < moment_bound }
@@ -84,7 +84,7 @@ pub fn steps(tail: &mut Tail, eff: u64, event: &Event, outs: &mut Outs) -> Answe
     runs(tail, eff, event, outs)
 }
 
-/// A tick with this limit, from what was put out before it.
+/// A tick with this limit, from what was emitted before it.
 #[tactic(auto, unfolding(crate::specs::Step::tick))]
 fn passes(tail: &mut Tail, limit: u64, eff: u64, outs: &mut Outs)
     requires sound { IsTailSound tail.old.config tail.old.vars }

@@ -1,5 +1,8 @@
 -- Names that proofs of this crate cite, passed on from one place. Declares nothing.
-pub use Rattle.std.proofs.Common.{Bool, IsSome, IsTrue, List, None, Option, Some, [], add-one, ap, append-nil, append_assoc, arith, drop, drop-cons, ext_get_or, false, get_or, get_or-set_other, get_or-set_same, inl, inr, is_none, is_some, length, length-append, length-set, map, max, refl, rules, set, subst, suc, sym, take, take_all, true, zero, ℕ, ◌%◌, ◌&&◌, ◌*◌, ◌++◌, ◌+◌, ◌-◌, ◌/◌, ◌<◌, ◌||◌, ◌↔◌, ◌∙◌, ◌∷◌, ◌≡◌, ◌≢◌, ◌≤◌, ◌⊎◌}
+pub use Rattle.std.proofs.Common.{Bool, IsSome, IsTrue, List, None, Option, Some, [], add-one, ap, append-nil, append_assoc, arith, drop}
+pub use Rattle.std.proofs.Common.{drop-cons, ext_get_or, false, get_or, get_or-set_other, get_or-set_same, inl, inr, is_none, is_some}
+pub use Rattle.std.proofs.Common.{length, length-append, length-set, map, max, refl, rules, set, subst, suc, sym, take, take_all, true}
+pub use Rattle.std.proofs.Common.{zero, ℕ, ◌%◌, ◌&&◌, ◌*◌, ◌++◌, ◌+◌, ◌-◌, ◌/◌, ◌<◌, ◌||◌, ◌↔◌, ◌∙◌, ◌∷◌, ◌≡◌, ◌≢◌, ◌≤◌, ◌⊎◌}
 pub use Rattle.std.proofs.lemmas.Bool.{cases_eq, eq-eqb, eqb-false, eqb-true, ne_eqb}
 pub use Rattle.std.proofs.lemmas.List.{drop-drop, drop_all, drop_more, get_or-map, length-map, map-append, map-set}
 pub use Rattle.std.specs.List.{All, AllByRecursion, cons_option, flat_map}

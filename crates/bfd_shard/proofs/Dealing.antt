@@ -1,11 +1,15 @@
 -- A session's own events are all that it is made of.
-use Rattle.bfd_shard.proofs.Common.{◌≡◌, ◌≢◌, ◌⊎◌, inl, inr, ℕ, ◌/◌, ◌%◌, Bool, true, false, List, [], ◌∷◌, Some, None, refl, ap, sym, ◌∙◌, max, if◌then◌else◌, ◌==◌, cons_option, cases_eq, eq-eqb, ne_eqb, eqb-true, eqb-false, SessionConfig, Event, stepped, ticked, Running, started, ShardEvent, Own, Tick, last_from, last_tick, run_from, run, div-add-mod'}
+use Rattle.bfd_shard.proofs.Common.{◌≡◌, ◌≢◌, ◌⊎◌, inl, inr, ℕ, ◌/◌, ◌%◌, Bool, true, false, List, [], ◌∷◌, Some, None, refl, ap, sym, ◌∙◌}
+use Rattle.bfd_shard.proofs.Common.{max, if◌then◌else◌, ◌==◌, cons_option, cases_eq, eq-eqb, ne_eqb, eqb-true, eqb-false, SessionConfig}
+use Rattle.bfd_shard.proofs.Common.{Event, stepped, ticked, Running, started, ShardEvent, Own, Tick, last_from, last_tick, run_from, run}
+use Rattle.bfd_shard.proofs.Common.{div-add-mod'}
 use Rattle.bfd_shard.specs.Dealing.{own_events, history_of}
 
 -- a session is made of its own events
 
 own_first : (p q m last : ℕ) (ev : Event) (es : List ShardEvent) (s : Running) (b : Bool)
-    → ((t : Running) → run_from p last es t ≡ run_from 0 last (own_events p es) t) → run_from p last es (if b then stepped m last ev s else s)
+    → ((t : Running) → run_from p last es t ≡ run_from 0 last (own_events p es) t)
+    → run_from p last es (if b then stepped m last ev s else s)
     ≡ run_from 0 last (cons_option (if b then Some (Own 0 m ev) else None) (own_events p es)) s
 unfolding run_from
 own_first p q m last ev es s true rest = rest (stepped m last ev s)
@@ -37,8 +41,10 @@ same_places j k n together = by (cases_eq j k)
 other_shard : (j k n : ℕ) → (j % n == k % n) ≡ false → (j == k) ≡ false
 other_shard j k n is = ne_eqb j k (λ same. eqb-false (j % n) (k % n) is (cc))
 
-own_dealt : (n k j m : ℕ) (ev : Event) (es : List ShardEvent) (b : Bool) → (j % n == k % n) ≡ b → own_events (k / n) (history_of n (k % n) es) ≡ own_events k es
-    → own_events (k / n) (cons_option (if b then Some (Own (j / n) m ev) else None) (history_of n (k % n) es)) ≡ own_events k (Own j m ev ∷ es)
+own_dealt : (n k j m : ℕ) (ev : Event) (es : List ShardEvent) (b : Bool) → (j % n == k % n) ≡ b
+    → own_events (k / n) (history_of n (k % n) es) ≡ own_events k es
+    → own_events (k / n) (cons_option (if b then Some (Own (j / n) m ev) else None) (history_of n (k % n) es))
+    ≡ own_events k (Own j m ev ∷ es)
 own_dealt n k j m ev es true is rest = cc (same_places j k n (eqb-true (j % n) (k % n) is))
 own_dealt n k j m ev es false is rest = cc (other_shard j k n is)
 
@@ -52,7 +58,8 @@ dealt_out n k es c = same_own_events (k / n) k (history_of n (k % n) es) es c (o
 
 -- every shard has every tick
 
-last_dealt : (last j m : ℕ) (ev : Event) (es : List ShardEvent) (b : Bool) → last_from last (cons_option (if b then Some (Own j m ev) else None) es) ≡ last_from last es
+last_dealt : (last j m : ℕ) (ev : Event) (es : List ShardEvent) (b : Bool)
+    → last_from last (cons_option (if b then Some (Own j m ev) else None) es) ≡ last_from last es
 unfolding last_from
 last_dealt last j m ev es true = refl
 last_dealt last j m ev es false = refl

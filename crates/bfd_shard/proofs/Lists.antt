@@ -1,5 +1,7 @@
 -- Lists of any elements: one of several lists as it grows, a Vec after its slice was changed, and the next of a list.
-use Rattle.bfd_shard.proofs.Common.{◌≡◌, ◌≢◌, ◌<◌, ◌++◌, ℕ, List, [], ◌∷◌, length, map, set, take, take_all, drop, get_or, get_or-set_same, get_or-set_other, sym, subst, append-nil, length-append, arith, All, drop_all, get_or-map, length-map, map-set, get_or-append_seam}
+use Rattle.bfd_shard.proofs.Common.{◌≡◌, ◌≢◌, ◌<◌, ◌++◌, ℕ, List, [], ◌∷◌, length, map, set, take, take_all, drop, get_or, get_or-set_same}
+use Rattle.bfd_shard.proofs.Common.{get_or-set_other, sym, subst, append-nil, length-append, arith, All, drop_all, get_or-map, length-map}
+use Rattle.bfd_shard.proofs.Common.{map-set, get_or-append_seam}
 
 module _ {V A : Type 0} (f : V → List A) where
   -- the list that has grown
@@ -14,9 +16,11 @@ module _ {V A : Type 0} (f : V → List A) where
 
 module _ {X : Type 0} where
   -- what a Vec is after its slice was changed
-  pub whole_back : (new items : List X) (n : ℕ) → length new ≡ length items → n ≡ length items → take n (new ++ drop (length new) items) ≡ new
+  pub whole_back : (new items : List X) (n : ℕ) → length new ≡ length items → n ≡ length items
+      → take n (new ++ drop (length new) items) ≡ new
   whole_back new items n same long = cc (drop_all (length new) items (omega arith), append-nil new, take_all n new (omega arith))
 
   -- what is true of all is true of the next
   pub all_next : (P : X → Type 0) (items xs ys : List X) (x : X) → xs ++ x ∷ ys ≡ items → All P items → P x
-  all_next P items xs ys x is all = subst P (get_or-append_seam xs x ys x) (subst (λ l. All P l) (sym is) all (length xs) x (omega (arith, length-append xs (x ∷ ys))))
+  all_next P items xs ys x is all = subst P (get_or-append_seam xs x ys x)
+      (subst (λ l. All P l) (sym is) all (length xs) x (omega (arith, length-append xs (x ∷ ys))))

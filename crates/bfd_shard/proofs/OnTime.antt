@@ -1,5 +1,7 @@
 -- Every tick of a history is on time where its last event is, and all before it were.
-use Rattle.bfd_shard.proofs.Common.{◌≡◌, ◌⊎◌, inl, inr, ◌++◌, ◌∷◌, [], ℕ, List, refl, subst, AllByRecursion, SessionConfig, Running, configs_of, IsSound, ShardEvent, Tick, events_of, last_tick, later, moved, runs, Shard, IsOnTime, IsOver, IsShard, NoneDue, expired, forgotten}
+use Rattle.bfd_shard.proofs.Common.{◌≡◌, ◌⊎◌, inl, inr, ◌++◌, ◌∷◌, [], ℕ, List, refl, subst, AllByRecursion, SessionConfig, Running}
+use Rattle.bfd_shard.proofs.Common.{configs_of, IsSound, ShardEvent, Tick, events_of, last_tick, later, moved, runs, Shard, IsOnTime}
+use Rattle.bfd_shard.proofs.Common.{IsOver, IsShard, NoneDue, expired, forgotten}
 use Rattle.bfd_shard.proofs.Runs.{last_more, runs_more}
 
 -- the law of expiry
@@ -45,9 +47,11 @@ module _ (configs : List SessionConfig) (events before : List ShardEvent) (event
   none_due_at over (inr further) = old.none_due before further.0 t further.1
 
 -- after a tick of a shard nothing is due, by its history
-over_at : {shard : Shard} {event : ShardEvent} {after : List Running} (t : ℕ) → IsShard shard → after ≡ moved shard.last event shard.sessions
+over_at : {shard : Shard} {event : ShardEvent} {after : List Running} (t : ℕ) → IsShard shard
+    → after ≡ moved shard.last event shard.sessions
     → IsOver (later shard.last event) event after → event ≡ Tick t
-    → NoneDue (last_tick (events_of shard.journal ++ Tick t ∷ [])) (runs (events_of shard.journal ++ Tick t ∷ []) (configs_of shard.sessions))
+    → NoneDue (last_tick (events_of shard.journal ++ Tick t ∷ []))
+    (runs (events_of shard.journal ++ Tick t ∷ []) (configs_of shard.sessions))
 over_at {shard} {after} t s m over is =
     let es : List ShardEvent = events_of shard.journal in
     let cs : List SessionConfig = configs_of shard.sessions in
@@ -58,13 +62,16 @@ over_at {shard} {after} t s m over is =
     rw (← last) (rw (← new) none)
 
 -- one event more of a shard
-pub on_time : IsLaw → {shard : Shard} (event : ShardEvent) {after : List Running} → IsShard shard → after ≡ moved shard.last event shard.sessions
+pub on_time : IsLaw → {shard : Shard} (event : ShardEvent) {after : List Running} → IsShard shard
+    → after ≡ moved shard.last event shard.sessions
     → IsOver (later shard.last event) event after → IsOnTime (configs_of shard.sessions) (events_of shard.journal ++ event ∷ [])
 on_time law {shard} event s m over =
     let es : List ShardEvent = events_of shard.journal in
     let cs : List SessionConfig = configs_of shard.sessions in
     let sound : AllByRecursion IsSound (runs es cs) = rw (← s.whole) s.sound in
     record {
-      exact = λ before rest t h. exact_at cs es before event t s.timely (λ _. law cs es t sound) (last_or_before es before rest event (Tick t) h);
-      none_due = λ before rest t h. none_due_at cs es before event t s.timely (over_at t s m over) (last_or_before es before rest event (Tick t) h);
+      exact = λ before rest t h. exact_at cs es before event t s.timely (λ _. law cs es t sound)
+          (last_or_before es before rest event (Tick t) h);
+      none_due = λ before rest t h. none_due_at cs es before event t s.timely (over_at t s m over)
+          (last_or_before es before rest event (Tick t) h);
     }

@@ -1,11 +1,18 @@
 -- A history that grows by one event.
-use Rattle.bfd_shard.proofs.Common.{◌≡◌, ◌≢◌, ◌⊎◌, inl, inr, ℕ, ◌+◌, ◌<◌, ◌≤◌, refl, sym, ◌∙◌, ap, List, [], ◌∷◌, ◌++◌, length, length-append, max, get_or, set, Option, None, Some, Bool, true, false, arith, get_or-set_same, get_or-set_other, length-set, zero, suc, ext_get_or, if◌then◌else◌, ◌==◌, slice_get, AllByRecursion, get_or-map, length-map, map-append, cases_eq, greatest_tick, SessionConfig, Event, stepped, ticked, Running, configs_of, IsSound, started, ShardEvent, Own, Tick, Entry, events_of, later, last_from, last_tick, after, run_from, run, runs_from, runs, moved, own_moved, shard_of, IsShard, IsHistory, IsOnTime, CanHappen, nat_tests, get_or_from_slice_get, slice_get_within}
+use Rattle.bfd_shard.proofs.Common.{◌≡◌, ◌≢◌, ◌⊎◌, inl, inr, ℕ, ◌+◌, ◌<◌, ◌≤◌, refl, sym, ◌∙◌, ap, List, [], ◌∷◌, ◌++◌, length}
+use Rattle.bfd_shard.proofs.Common.{length-append, max, get_or, set, Option, None, Some, Bool, true, false, arith, get_or-set_same}
+use Rattle.bfd_shard.proofs.Common.{get_or-set_other, length-set, zero, suc, ext_get_or, if◌then◌else◌, ◌==◌, slice_get, AllByRecursion}
+use Rattle.bfd_shard.proofs.Common.{get_or-map, length-map, map-append, cases_eq, greatest_tick, SessionConfig, Event, stepped, ticked}
+use Rattle.bfd_shard.proofs.Common.{Running, configs_of, IsSound, started, ShardEvent, Own, Tick, Entry, events_of, later, last_from}
+use Rattle.bfd_shard.proofs.Common.{last_tick, after, run_from, run, runs_from, runs, moved, own_moved, shard_of, IsShard, IsHistory}
+use Rattle.bfd_shard.proofs.Common.{IsOnTime, CanHappen, nat_tests, get_or_from_slice_get, slice_get_within}
 use Rattle.bfd_session.proofs.Standing.{ticked_configs}
 use Rattle.bfd_shard.proofs.Ticks.{nobody}
 
 -- one session
 
-run_more : (p last : ℕ) (es : List ShardEvent) (e : ShardEvent) (s : Running) → run_from p last (es ++ e ∷ []) s ≡ after p (last_from last es) e (run_from p last es s)
+run_more : (p last : ℕ) (es : List ShardEvent) (e : ShardEvent) (s : Running)
+    → run_from p last (es ++ e ∷ []) s ≡ after p (last_from last es) e (run_from p last es s)
 unfolding run_from last_from
 run_more p last [] e s = refl
 run_more p last (x ∷ es) e s = run_more p (later last x) es e (after p last x s)
@@ -22,7 +29,8 @@ unfolding runs_from
 runs_long p es [] = refl
 runs_long p es (c ∷ cs) = ap suc (runs_long (p + 1) es cs)
 
-pub runs_at : (p : ℕ) (es : List ShardEvent) (cs : List SessionConfig) (k m : ℕ) (c : SessionConfig) (d : Running) → k < length cs → p + k ≡ m
+pub runs_at : (p : ℕ) (es : List ShardEvent) (cs : List SessionConfig) (k m : ℕ) (c : SessionConfig) (d : Running) → k < length cs
+    → p + k ≡ m
     → get_or (runs_from p es cs) k d ≡ run m es (get_or cs k c)
 unfolding runs_from
 runs_at p es [] k m c d h e = absurd (omega arith)
@@ -81,7 +89,8 @@ set_configs [] (suc k) m last ev e = refl
 set_configs (y ∷ ss) zero m last ev e = cc
 set_configs (y ∷ ss) (suc k) m last ev e = cc (set_configs ss k m last ev e)
 
-own_configs : (o : Option Running) (ss : List Running) (k m last : ℕ) (ev : Event) → slice_get ss k ≡ o → configs_of (own_moved o k m last ev ss) ≡ configs_of ss
+own_configs : (o : Option Running) (ss : List Running) (k m last : ℕ) (ev : Event) → slice_get ss k ≡ o
+    → configs_of (own_moved o k m last ev ss) ≡ configs_of ss
 own_configs None ss k m last ev e = refl
 own_configs (Some x) ss k m last ev e = set_configs ss k m last ev e
 
@@ -92,13 +101,20 @@ moved_configs last (Own q m ev) ss = own_configs (slice_get ss q) ss q m last ev
 moved_configs last (Tick t) ss = ticked_configs (max last t) ss
 
 -- one event more of a history is an event of the sessions that it left
-pub runs_more : (es : List ShardEvent) (e : ShardEvent) (cs : List SessionConfig) → runs (es ++ e ∷ []) cs ≡ moved (last_tick es) e (runs es cs)
+pub runs_more : (es : List ShardEvent) (e : ShardEvent) (cs : List SessionConfig)
+    → runs (es ++ e ∷ []) cs ≡ moved (last_tick es) e (runs es cs)
 runs_more es e cs =
     let c : SessionConfig = nobody.config in
     let long = runs_long 0 es cs in
     let grown = runs_long 0 (es ++ e ∷ []) cs in
-    ext_get_or nobody (runs (es ++ e ∷ []) cs) (moved (last_tick es) e (runs es cs)) (omega (arith, moved_long (last_tick es) e (runs es cs)))
-    (λ k h. cc (runs_at 0 (es ++ e ∷ []) cs k k c nobody (omega arith) (omega arith), run_more k 0 es e (started (get_or cs k c)), runs_at 0 es cs k k c nobody (omega arith) (omega arith), moved_at (last_tick es) e (runs es cs) k nobody (omega arith)))
+    ext_get_or nobody (runs (es ++ e ∷ []) cs) (moved (last_tick es) e (runs es cs))
+    (omega (arith, moved_long (last_tick es) e (runs es cs)))
+    (λ k h. cc (
+      runs_at 0 (es ++ e ∷ []) cs k k c nobody (omega arith) (omega arith),
+      run_more k 0 es e (started (get_or cs k c)),
+      runs_at 0 es cs k k c nobody (omega arith) (omega arith),
+      moved_at (last_tick es) e (runs es cs) k nobody (omega arith),
+    ))
 
 -- no event changes the configuration of a session
 after_config : (p last : ℕ) (e : ShardEvent) (s : Running) → (after p last e s).config ≡ s.config
@@ -121,14 +137,18 @@ runs_configs p es (c ∷ cs) = cc (run_config p 0 es (started c), runs_configs (
 
 -- the shard
 
-history_more : (cs : List SessionConfig) (es : List ShardEvent) (e : ShardEvent) → IsHistory cs es → CanHappen cs e → IsHistory cs (es ++ e ∷ [])
+history_more : (cs : List SessionConfig) (es : List ShardEvent) (e : ShardEvent) → IsHistory cs es → CanHappen cs e
+    → IsHistory cs (es ++ e ∷ [])
 history_more cs [] e h can = (can, tt)
 history_more cs (x ∷ es) e h can = (h.0, history_more cs es e h.1 can)
 
 -- an event leaves a shard
-pub shard_more : {last limit room : ℕ} (room2 : ℕ) (entry : Entry) {ss ss2 : List Running} {j : List Entry} → IsShard (shard_of ss last j limit room)
-    → length j < limit → later last entry.event ≤ greatest_tick → CanHappen (configs_of ss) entry.event → ss2 ≡ moved last entry.event ss → AllByRecursion IsSound ss2
-    → IsOnTime (configs_of ss) (events_of j ++ entry.event ∷ []) → IsShard (shard_of ss2 (later last entry.event) (j ++ entry ∷ []) limit room2)
+pub shard_more : {last limit room : ℕ} (room2 : ℕ) (entry : Entry) {ss ss2 : List Running} {j : List Entry}
+    → IsShard (shard_of ss last j limit room)
+    → length j < limit → later last entry.event ≤ greatest_tick → CanHappen (configs_of ss) entry.event → ss2 ≡ moved last entry.event ss
+    → AllByRecursion IsSound ss2
+    → IsOnTime (configs_of ss) (events_of j ++ entry.event ∷ [])
+    → IsShard (shard_of ss2 (later last entry.event) (j ++ entry ∷ []) limit room2)
 shard_more {last} room2 entry {ss} {ss2} {j} s below early can m sound timely =
     let es : List ShardEvent = events_of j in
     let e : ShardEvent = entry.event in

@@ -1,5 +1,7 @@
 -- A shard at the start.
-use Rattle.bfd_shard.proofs.Common.{◌≡◌, ◌<◌, ◌≤◌, ◌+◌, ◌++◌, subst, ℕ, zero, suc, List, [], ◌∷◌, length, map, take, drop, get_or, set, refl, sym, ap, ◌∙◌, add-one, arith, Option, AllByRecursion, length-map, map-append, SessionConfig, due, Running, configs_of, IsSound, started, Entry, last_from, run_from, runs_from, shard_of, IsShard}
+use Rattle.bfd_shard.proofs.Common.{◌≡◌, ◌<◌, ◌≤◌, ◌+◌, ◌++◌, subst, ℕ, zero, suc, List, [], ◌∷◌, length, map, take, drop, get_or, set}
+use Rattle.bfd_shard.proofs.Common.{refl, sym, ap, ◌∙◌, add-one, arith, Option, AllByRecursion, length-map, map-append, SessionConfig, due}
+use Rattle.bfd_shard.proofs.Common.{Running, configs_of, IsSound, started, Entry, last_from, run_from, runs_from, shard_of, IsShard}
 use Rattle.bfd_session.proofs.Starting.{started_configs}
 use Rattle.bfd_shard.proofs.OnTime.{none_yet}
 
@@ -12,12 +14,14 @@ stands_in f (x ∷ xs) (y ∷ ys) zero d h e = refl
 stands_in f (x ∷ xs) (y ∷ ys) (suc i) d h e = cc (stands_in f xs ys i d (omega arith) (omega arith))
 
 -- one more due tick is kept
-pub due_more : (xs : List Running) (ys : List (Option ℕ)) {zs : List (Option ℕ)} {i : ℕ} (d : Running) → i < length xs → length ys ≡ length xs
+pub due_more : (xs : List Running) (ys : List (Option ℕ)) {zs : List (Option ℕ)} {i : ℕ} (d : Running) → i < length xs
+    → length ys ≡ length xs
     → zs ≡ map due (take i xs) ++ drop i ys → set zs i (due (get_or xs i d)) ≡ map due (take (i + 1) xs) ++ drop (i + 1) ys
 due_more xs ys {i} d h e is = ap (λ ws. set ws i (due (get_or xs i d))) is ∙ rw add-one (stands_in due xs ys i d h e)
 
 -- one more sound session
-pub sound_more : (ss ss2 : List Running) (s : Running) → AllByRecursion IsSound ss → IsSound s → ss2 ≡ ss ++ s ∷ [] → AllByRecursion IsSound ss2
+pub sound_more : (ss ss2 : List Running) (s : Running) → AllByRecursion IsSound ss → IsSound s → ss2 ≡ ss ++ s ∷ []
+    → AllByRecursion IsSound ss2
 sound_more ss ss2 s sound one e = subst (λ (xs : List Running). AllByRecursion IsSound xs) (sym e) (added ss sound)
   where
     added : (xs : List Running) → AllByRecursion IsSound xs → AllByRecursion IsSound (xs ++ s ∷ [])

@@ -1,5 +1,7 @@
 -- A list that is dealt out in turn, where one element of it changes too, and the places of a table and of its shards.
-use Rattle.bfd_shard.proofs.Common.{◌≡◌, ◌≢◌, ◌<◌, ◌≤◌, ◌+◌, ◌-◌, ◌*◌, ◌/◌, ◌%◌, ℕ, zero, suc, List, [], ◌∷◌, ◌++◌, append_assoc, append-nil, length, map, drop, drop-drop, drop_all, drop_more, get_or, set, refl, arith, slice_get, AllByRecursion, div-add-mod'}
+use Rattle.bfd_shard.proofs.Common.{◌≡◌, ◌≢◌, ◌<◌, ◌≤◌, ◌+◌, ◌-◌, ◌*◌, ◌/◌, ◌%◌, ℕ, zero, suc, List, [], ◌∷◌, ◌++◌, append_assoc}
+use Rattle.bfd_shard.proofs.Common.{append-nil, length, map, drop, drop-drop, drop_all, drop_more, get_or, set, refl, arith, slice_get}
+use Rattle.bfd_shard.proofs.Common.{AllByRecursion, div-add-mod'}
 use Rattle.std.proofs.Math.Nat.{mul-add-mod_self_left, mod-eq_of_lt}
 use Rattle.bfd_shard.specs.Dealing.{share}
 
@@ -83,10 +85,12 @@ module _ {A : Type 0} where
   share_one n x xs = refl
 
   -- one element of it, and the next n further on
-  pub share_next : (n at next : ℕ) (xs : List A) (x : A) → 0 < n → at < length xs → next ≡ at + n → x ≡ get_or xs at x → share n 0 (drop at xs) ≡ x ∷ share n 0 (drop next xs)
+  pub share_next : (n at next : ℕ) (xs : List A) (x : A) → 0 < n → at < length xs → next ≡ at + n → x ≡ get_or xs at x
+      → share n 0 (drop at xs) ≡ x ∷ share n 0 (drop next xs)
   share_next n at next xs x some inside next_is is =
       let split : drop at xs ≡ x ∷ drop (at + 1) xs = cc (drop_more xs at x inside) in
-      let far : drop (n - 1) (drop (at + 1) xs) ≡ drop next xs = (let e : at + 1 + (n - 1) ≡ next = omega (arith, some, next_is) in cc (drop-drop (n - 1) (at + 1) xs)) in
+      let far : drop (n - 1) (drop (at + 1) xs) ≡ drop next xs =
+      (let e : at + 1 + (n - 1) ≡ next = omega (arith, some, next_is) in cc (drop-drop (n - 1) (at + 1) xs)) in
       cc (share_one n x (drop (at + 1) xs), share_from n (n - 1) (drop (at + 1) xs))
 
   -- past the end there is none
@@ -97,12 +101,14 @@ module _ {A : Type 0} where
 
 -- what was made of a share so far, of each element one, makes up the whole with what is left
 module _ {A B : Type 0} (f : A → B) (n c : ℕ) (xs : List A) where
-  pub share_more : (at next : ℕ) (part more : List B) (x : A) (y : B) → 0 < n → at < length xs → next ≡ at + n → x ≡ get_or xs at x → y ≡ f x → more ≡ part ++ y ∷ []
+  pub share_more : (at next : ℕ) (part more : List B) (x : A) (y : B) → 0 < n → at < length xs → next ≡ at + n → x ≡ get_or xs at x
+      → y ≡ f x → more ≡ part ++ y ∷ []
       → part ++ map f (share n 0 (drop at xs)) ≡ map f (share n c xs) → more ++ map f (share n 0 (drop next xs)) ≡ map f (share n c xs)
   share_more at next part more x y some inside next_is is made pushed whole =
       cc (share_next n at next xs x some inside next_is is, append_assoc part (f x ∷ []) (map f (share n 0 (drop next xs))))
 
-  pub share_over : (at : ℕ) (part : List B) → length xs ≤ at → part ++ map f (share n 0 (drop at xs)) ≡ map f (share n c xs) → part ≡ map f (share n c xs)
+  pub share_over : (at : ℕ) (part : List B) → length xs ≤ at → part ++ map f (share n 0 (drop at xs)) ≡ map f (share n c xs)
+      → part ≡ map f (share n c xs)
   share_over at part over whole = cc (append-nil part, share_nothing n _ (drop_all at xs over))
 
 -- the places of a table, and those of its shards

@@ -1,5 +1,10 @@
 -- A tick of the sessions that are due, one after another, is a tick of all.
-use Rattle.bfd_shard.proofs.Common.{◌≡◌, ◌≢◌, ◌⊎◌, inl, inr, ℕ, ◌+◌, ◌*◌, max, ◌<◌, ◌≤◌, refl, sym, ◌∙◌, ap, List, [], ◌∷◌, ◌++◌, append_assoc, append-nil, length, length-append, map, set, get_or, Option, None, Bool, true, false, arith, drop, drop-cons, add-one, zero, suc, get_or-set_same, get_or-set_other, length-set, if◌then◌else◌, drop_all, get_or-map, length-map, AllByRecursion, flat_map, cases_eq, has_come, moment_bound, greatest_tick, places, without, ticked, tick_items, due, Running, IsSound, started, tick_next, tick_emits, NoneDue, get_or-append_seam, set-append_seam}
+use Rattle.bfd_shard.proofs.Common.{◌≡◌, ◌≢◌, ◌⊎◌, inl, inr, ℕ, ◌+◌, ◌*◌, max, ◌<◌, ◌≤◌, refl, sym, ◌∙◌, ap, List, [], ◌∷◌, ◌++◌}
+use Rattle.bfd_shard.proofs.Common.{append_assoc, append-nil, length, length-append, map, set, get_or, Option, None, Bool, true, false}
+use Rattle.bfd_shard.proofs.Common.{arith, drop, drop-cons, add-one, zero, suc, get_or-set_same, get_or-set_other, length-set}
+use Rattle.bfd_shard.proofs.Common.{if◌then◌else◌, drop_all, get_or-map, length-map, AllByRecursion, flat_map, cases_eq, has_come}
+use Rattle.bfd_shard.proofs.Common.{moment_bound, greatest_tick, places, without, ticked, tick_items, due, Running, IsSound, started}
+use Rattle.bfd_shard.proofs.Common.{tick_next, tick_emits, NoneDue, get_or-append_seam, set-append_seam}
 use Rattle.bfd_rules.specs.declared.outputs.Out.{Out}
 use Rattle.bfd_packet.specs.declared.arrival.Addr.TheVariants.{V4}
 use Rattle.bfd_rules.specs.declared.config.Role.TheVariants.{Single}
@@ -7,7 +12,20 @@ use Rattle.bfd_session.specs.declared.event.SessionConfig.TheVariants.{Pair}
 
 -- a session for places past the end
 abbrev pub nobody : Running
-nobody = started (Pair (record { discr = 0; role = Single; iface = 0; local = V4 0; remote = V4 0; active = false; tx = 0; rx = 0; mult = 0; echo = 0; seed = 0; keys = None }))
+nobody = started (Pair (record {
+  discr = 0;
+  role = Single;
+  iface = 0;
+  local = V4 0;
+  remote = V4 0;
+  active = false;
+  tx = 0;
+  rx = 0;
+  mult = 0;
+  echo = 0;
+  seed = 0;
+  keys = None;
+}))
 
 -- what a tick goes over: the sessions, the due ticks that the timers have of them, and the outputs so far
 pub record Tour : Type 0 where
@@ -49,12 +67,18 @@ module _ (idles : Idles) (d : Running) (last : ℕ) where
       sym (cc (idles.outs s last (max (1000 * last) s.vars.at) sound nothing, append-nil outs)) in
       cc
 
-  visit_seam : (pre ss : List Running) (dpre dss : List (Option ℕ)) (outs : List Out) (s : Running) (x : Option ℕ) → length dpre ≡ length pre
+  visit_seam : (pre ss : List Running) (dpre dss : List (Option ℕ)) (outs : List Out) (s : Running) (x : Option ℕ)
+      → length dpre ≡ length pre
       → visit d last (length pre) (tour (pre ++ s ∷ ss) (dpre ++ x ∷ dss) outs)
       ≡ tour (pre ++ ticked last s ∷ ss) (dpre ++ due (ticked last s) ∷ dss) (outs ++ tick_items last s)
   unfolding visit
   visit_seam pre ss dpre dss outs s x e =
-      cc (ap (λ z. tour (set (pre ++ s ∷ ss) (length pre) (ticked last z)) (set (dpre ++ x ∷ dss) (length pre) (due (ticked last z))) (outs ++ tick_items last z)) (get_or-append_seam pre s ss d), set-append_seam pre s ss (ticked last s), set-append_seam dpre x dss (due (ticked last s)))
+      cc (
+        ap (λ z. tour (set (pre ++ s ∷ ss) (length pre) (ticked last z)) (set (dpre ++ x ∷ dss) (length pre) (due (ticked last z)))
+            (outs ++ tick_items last z)) (get_or-append_seam pre s ss d),
+        set-append_seam pre s ss (ticked last s),
+        set-append_seam dpre x dss (due (ticked last s)),
+      )
 
   -- the session at the seam is among those that are visited, or rests
   passes : (b : Bool) (ks : List ℕ) {n : ℕ} (pre ss : List Running) (dpre dss : List (Option ℕ)) (outs : List Out) (s : Running)
@@ -65,7 +89,8 @@ module _ (idles : Idles) (d : Running) (last : ℕ) where
   passes true ks pre ss dpre dss outs s e f sound is = cc (visit_seam pre ss dpre dss outs s (without last (due s)) (cc))
   passes false ks pre ss dpre dss outs s e f sound is = cc (at_rest pre ss dpre dss outs s sound is)
 
-  all_ticked : (n : ℕ) (pre ss : List Running) (dpre : List (Option ℕ)) (outs : List Out) → length pre ≡ n → length dpre ≡ n → AllByRecursion IsSound ss
+  all_ticked : (n : ℕ) (pre ss : List Running) (dpre : List (Option ℕ)) (outs : List Out) → length pre ≡ n → length dpre ≡ n
+      → AllByRecursion IsSound ss
       → visits d last (places (has_come last) n (map due ss)) (tour (pre ++ ss) (dpre ++ map (without last) (map due ss)) outs)
       ≡ tour (pre ++ map (ticked last) ss) (dpre ++ map due (map (ticked last) ss)) (outs ++ flat_map (tick_items last) ss)
   unfolding visits
@@ -74,7 +99,8 @@ module _ (idles : Idles) (d : Running) (last : ℕ) where
       let t : Running = ticked last s in
       let told : List Out = outs ++ tick_items last s in
       cc (
-        passes (has_come last (due s)) (places (has_come last) (n + 1) (map due ss)) pre ss dpre (map (without last) (map due ss)) outs s e f sound.0 refl,
+        passes (has_come last (due s)) (places (has_come last) (n + 1) (map due ss)) pre ss dpre (map (without last) (map due ss)) outs s e
+            f sound.0 refl,
         regrouped pre ss dpre (map (without last) (map due ss)) t (due t) told,
         all_ticked (n + 1) (pre ++ t ∷ []) ss (dpre ++ due t ∷ []) told
             (omega (arith, length-append pre (t ∷ []))) (omega (arith, length-append dpre (due t ∷ []))) sound.1,
@@ -92,7 +118,8 @@ range_by p n xs true zero rec h = omega arith
 range_by p n xs true (suc j) rec h = omega arith
 range_by p n xs false j rec h = omega arith
 
-pub in_range : {A : Type 0} (p : A → Bool) (n : ℕ) (xs : List A) (j : ℕ) → j < length (places p n xs) → get_or (places p n xs) j 0 < n + length xs
+pub in_range : {A : Type 0} (p : A → Bool) (n : ℕ) (xs : List A) (j : ℕ) → j < length (places p n xs)
+    → get_or (places p n xs) j 0 < n + length xs
 in_range p n [] j h = absurd (omega arith)
 in_range p n (x ∷ xs) j h = range_by p n xs (p x) j (in_range p (n + 1) xs) h
 
@@ -110,7 +137,8 @@ no_more p n (x ∷ xs) = more_by n (places p (n + 1) xs) (p x) (no_more p (n + 1
 abbrev pub IsAway : ℕ → ℕ → List ℕ → Type 0
 IsAway k i ks = (j : ℕ) → i ≤ j → j < length ks → get_or ks j 0 ≢ k
 
-away_at : {A : Type 0} (p : A → Bool) (x : A) (ks : List ℕ) {n m : ℕ} (b : Bool) → p x ≡ b → n ≡ m → IsAway m 0 (if b then n ∷ ks else ks) → p x ≡ false
+away_at : {A : Type 0} (p : A → Bool) (x : A) (ks : List ℕ) {n m : ℕ} (b : Bool) → p x ≡ b → n ≡ m → IsAway m 0 (if b then n ∷ ks else ks)
+    → p x ≡ false
 away_at p x ks true is same away = absurd (away 0 (omega arith) (omega arith) same)
 away_at p x ks false is same away = is
 
@@ -118,10 +146,12 @@ away_from : (n : ℕ) {m : ℕ} (ks : List ℕ) (b : Bool) → IsAway m 0 (if b 
 away_from n ks true away = λ j from to. away (suc j) (omega arith) (omega arith)
 away_from n ks false away = away
 
-passed_over : {A : Type 0} (p : A → Bool) (xs : List A) (n k m : ℕ) (d : A) → k < length xs → n + k ≡ m → IsAway m 0 (places p n xs) → p (get_or xs k d) ≡ false
+passed_over : {A : Type 0} (p : A → Bool) (xs : List A) (n k m : ℕ) (d : A) → k < length xs → n + k ≡ m → IsAway m 0 (places p n xs)
+    → p (get_or xs k d) ≡ false
 passed_over p [] n k m d h e away = absurd (omega arith)
 passed_over p (x ∷ xs) n zero m d h e away = away_at p x (places p (n + 1) xs) _ refl (omega arith) away
-passed_over p (x ∷ xs) n (suc k) m d h e away = passed_over p xs (n + 1) k m d (omega arith) (omega arith) (away_from n (places p (n + 1) xs) (p x) away)
+passed_over p (x ∷ xs) n (suc k) m d h e away = passed_over p xs (n + 1) k m d (omega arith) (omega arith)
+    (away_from n (places p (n + 1) xs) (p x) away)
 
 -- nothing is due by this tick, but at places that are still to be visited
 abbrev pub QuietFrom : ℕ → ℕ → List ℕ → List Running → Type 0
@@ -136,7 +166,8 @@ earlier i j k ks at other away m from to = by (cases_eq i m)
     by (inr apart) = away m (omega arith) to
 
 quiet_by : (last i k : ℕ) (ks : List ℕ) (ss : List Running) (s : Running) → QuietFrom last i ks ss → get_or ks i 0 ≡ k → k < length ss
-    → has_come last (due s) ≡ false → (j : ℕ) (d : Running) → j < length ss → IsAway j (i + 1) ks → (k ≡ j) ⊎ (k ≢ j) → has_come last (due (get_or (set ss k s) j d)) ≡ false
+    → has_come last (due s) ≡ false → (j : ℕ) (d : Running) → j < length ss → IsAway j (i + 1) ks → (k ≡ j) ⊎ (k ≢ j)
+    → has_come last (due (get_or (set ss k s) j d)) ≡ false
 quiet_by last i k ks ss s quiet at within over j d inside away (inl same) = cc (get_or-set_same ss k s d within)
 quiet_by last i k ks ss s quiet at within over j d inside away (inr other) =
     cc (get_or-set_other ss k j s d (λ e. other (sym e)), quiet j d inside (earlier i j k ks at other away))
@@ -145,7 +176,8 @@ quiet_by last i k ks ss s quiet at within over j d inside away (inr other) =
 pub quiet_more : (last i : ℕ) (ks : List ℕ) (ss ss2 : List Running) (k : ℕ) (s : Running) → QuietFrom last i ks ss → get_or ks i 0 ≡ k
     → k < length ss → ss2 ≡ set ss k s → has_come last (due s) ≡ false → QuietFrom last (i + 1) ks ss2
 quiet_more last i ks ss ss2 k s quiet at within made over =
-    rw made (λ j d inside away. quiet_by last i k ks ss s quiet at within over j d (let l = length-set ss k s in omega arith) away (cases_eq k j))
+    rw made (λ j d inside away. quiet_by last i k ks ss s quiet at within over j d (let l = length-set ss k s in omega arith) away
+    (cases_eq k j))
 
 each_one : (P : Running → Type 0) (ss : List Running) → ((k : ℕ) (d : Running) → k < length ss → P (get_or ss k d)) → AllByRecursion P ss
 each_one P [] at = tt
@@ -159,13 +191,16 @@ quiet_all last ks ss end quiet = each_one (λ s. has_come last (due s) ≡ false
 pub quiet_first : (last : ℕ) {ks : List ℕ} (ss : List Running) → ks ≡ places (has_come last) 0 (map due ss) → QuietFrom last 0 ks ss
 quiet_first last ss e = λ k d h away. (cc (
   get_or-map due ss k d (due d) h,
-  passed_over (has_come last) (map due ss) 0 k k (due d) (omega (arith, length-map ss due, length-map ss due)) (omega arith) (rw (← e) away),
+  passed_over (has_come last) (map due ss) 0 k k (due d) (omega (arith, length-map ss due, length-map ss due)) (omega arith)
+      (rw (← e) away),
 ))
 
 -- one place more of the list is visited
-pub visits_more : (d : Running) (last : ℕ) (ks : List ℕ) (i k : ℕ) (ss ss2 : List Running) (ds ds2 : List (Option ℕ)) (outs outs2 : List Out)
+pub visits_more : (d : Running) (last : ℕ) (ks : List ℕ) (i k : ℕ) (ss ss2 : List Running) (ds ds2 : List (Option ℕ))
+    (outs outs2 : List Out)
     → i < length ks → k ≡ get_or ks i 0 → ss2 ≡ set ss k (ticked last (get_or ss k d)) → ds2 ≡ set ds k (due (ticked last (get_or ss k d)))
-    → outs2 ≡ outs ++ tick_items last (get_or ss k d) → visits d last (drop (i + 1) ks) (tour ss2 ds2 outs2) ≡ visits d last (drop i ks) (tour ss ds outs)
+    → outs2 ≡ outs ++ tick_items last (get_or ss k d)
+    → visits d last (drop (i + 1) ks) (tour ss2 ds2 outs2) ≡ visits d last (drop i ks) (tour ss ds outs)
 unfolding visits visit
 visits_more d last ks i k ss ss2 ds ds2 outs outs2 more at moved kept told =
     let rest : drop i ks ≡ k ∷ drop (i + 1) ks =
@@ -176,12 +211,14 @@ visits_more d last ks i k ss ss2 ds ds2 outs outs2 more at moved kept told =
     cc
 
 -- when all are visited, all are ticked
-pub visits_done : (idles : Idles) (d : Running) (last : ℕ) {ks : List ℕ} {i : ℕ} (ss ss2 : List Running) {ds : List (Option ℕ)} (ds2 : List (Option ℕ)) (outs outs2 : List Out)
+pub visits_done : (idles : Idles) (d : Running) (last : ℕ) {ks : List ℕ} {i : ℕ} (ss ss2 : List Running) {ds : List (Option ℕ)}
+    (ds2 : List (Option ℕ)) (outs outs2 : List Out)
     → AllByRecursion IsSound ss → length ks ≤ i → ks ≡ places (has_come last) 0 (map due ss) → ds ≡ map (without last) (map due ss)
     → visits d last (drop i ks) (tour ss2 ds2 outs2) ≡ visits d last ks (tour ss ds outs)
     → tour ss2 ds2 outs2 ≡ tour (map (ticked last) ss) (map due (map (ticked last) ss)) (outs ++ flat_map (tick_items last) ss)
 unfolding visits
-visits_done idles d last {ks} {i} ss ss2 ds2 outs outs2 sound end e f h = cc (drop_all i ks end, all_ticked idles d last 0 [] ss [] outs refl refl sound)
+visits_done idles d last {ks} {i} ss ss2 ds2 outs outs2 sound end e f h =
+    cc (drop_all i ks end, all_ticked idles d last 0 [] ss [] outs refl refl sound)
 
 -- what is ticked stays sound
 pub all_sound : {last : ℕ} (ss : List Running) → last ≤ greatest_tick → ((s : Running) → IsSound s → s.vars.at < moment_bound)

@@ -18,7 +18,7 @@ pub enum ShardEvent {
     Tick(Tick),
 }
 
-/// An entry of a shard's journal: an event, and the number of the caller that brought it.
+/// An entry of a shard's journal: an event, and the number of its caller.
 #[derive(Drop)]
 pub struct Entry {
     pub caller: u32,

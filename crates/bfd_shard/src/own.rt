@@ -49,7 +49,7 @@ fn step_one(last: u64, moment: u64, event: &Event, session: &mut Session, outs: 
     session.step(eff, event, outs)
 }
 
-/// An own event of the session at this place, whose due tick is kept anew.
+/// An own event of the session at this place, whose due tick is updated.
 #[tactic(auto, using(crate::proofs::Moves::due_set, crate::proofs::Moves::all_set))]
 pub(crate) fn step_at<W: Timers, L: Ledger>(
     sessions: &mut Vec<Session>,

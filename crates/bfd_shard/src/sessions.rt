@@ -1,5 +1,5 @@
-//! Sessions with their timers and the last tick: what an event changes, whoever keeps a journal of it.
-ghost use Rattle.std.specs.Prelude.{ℕ, ◌≡◌, ◌+◌, ◌<◌, ◌≤◌, ◌++◌, ◌∷◌, IfOk, IfSome, OnErr, OnOk, IsTrue, ◌↔◌, drop, length, map, take};
+//! Sessions with their timers and the last tick: what an event changes, no matter who keeps a journal of it.
+ghost use Rattle.std.specs.Prelude.{ℕ, ◌≡◌, ◌+◌, ◌<◌, ◌≤◌, ◌++◌, ◌∷◌, IfOk, IfSome, OnErr, OnOk, IsTrue, ◌↔◌, drop, length, map, take, vec_capacity, vec_len};
 ghost use Rattle.std.specs.List.{AllByRecursion};
 ghost use Rattle.bfd_num.specs.Numbers.{greatest_tick};
 ghost use Rattle.bfd_lanes.specs.Held.{room_of};
@@ -18,7 +18,7 @@ ghost use Rattle.bfd_session.specs.Reaching.{IsTaken, Stands};
 
 use crate::entry::ShardEvent;
 use crate::own::step_at;
-use crate::start::{sessions_of, share_of, time_all, timers_of};
+use crate::start::{sessions_of, share_of, timers_of};
 use crate::ticking::tick_all;
 use bfd_lanes::Ids;
 use bfd_num::{Moment, Steps, Tick};
@@ -137,7 +137,7 @@ fn act<W: Timers, L: Ledger>(
     }
 }
 
-/// Whether a session stands at the place that takes the event.
+/// Whether a session stands at the place that accepts the event.
 fn takes_at(sessions: &[Session], place: u32, event: &Event) -> bool
     ensures { IsTrue result ↔ IsTaken (configs_of sessions.now) place event.now }
 {
@@ -147,21 +147,21 @@ fn takes_at(sessions: &[Session], place: u32, event: &Event) -> bool
     }
 }
 
-/// Puts a session in at a place.
+/// Puts a session in at a place, where there is room for it.
 #[tactic(auto, using(crate::proofs::Moves::all_in))]
-fn put_in(sessions: &mut Vec<Session>, place: u32, session: Session) -> Result<(), AllocError>
+fn put_in(sessions: &mut Vec<Session>, place: u32, session: Session)
     requires place { place ≤ length sessions.old.items }
+    requires room { vec_len sessions.old < vec_capacity sessions.old }
     requires all { AllByRecursion IsSound sessions.old.items }
     requires one { IsSound session }
-    ensures items { OnOk result (sessions.new.items
-        ≡ take place sessions.old.items ++ session ∷ drop place sessions.old.items) }
-    ensures sound { OnOk result (AllByRecursion IsSound sessions.new.items) }
-    ensures long { OnOk result (length sessions.new.items ≡ length sessions.old.items + 1) }
-    ensures same { OnErr result (sessions.new.items ≡ sessions.old.items) }
+    ensures items { sessions.new.items
+        ≡ take place sessions.old.items ++ session ∷ drop place sessions.old.items }
+    ensures sound { AllByRecursion IsSound sessions.new.items }
+    ensures long { length sessions.new.items ≡ length sessions.old.items + 1 }
 {
     match sessions.insert(place as usize, session) {
-        Ok(()) => Ok(()),
-        Err(_) => Err(AllocError),
+        Ok(()) => (),
+        Err(_) => unreachable!(),
     }
 }
 
@@ -229,6 +229,7 @@ impl<W: Timers> Sessions<W> {
     /// One session more, of this configuration, which is within its ranges: it stands at `place` and starts at the last tick, and
     /// those that stood there and behind it move up by one. Nothing else changes. Fails only when out of memory, and then nothing
     /// has changed. Takes time linear in the sessions.
+    #[tactic(auto, using(crate::proofs::Moves::dues_in))]
     pub fn add(
         &mut self,
         alloc: Global,
@@ -243,17 +244,18 @@ impl<W: Timers> Sessions<W> {
         ensures last { self.new.last ≡ self.old.last }
         ensures same { OnErr result (self.new ≡ self.old) }
     {
-        let mut ids = Ids::make(alloc, self.sessions.len() + 1)?;
-        let mut timers = W::make(alloc, self.sessions.len() as u32 + 1)?;
-        put_in(&mut self.sessions, place, Session::make(config))?;
-        time_all(&self.sessions, &mut timers, self.last, &mut ids);
-        self.timers = timers;
+        let ids = Ids::make(alloc, self.sessions.len() + 1)?;
+        let session = Session::make(config);
+        self.sessions.reserve(1)?;
+        self.timers.insert(alloc, place, session.due())?;
+        put_in(&mut self.sessions, place, session);
         self.ids = ids;
         Ok(())
     }
 
-    /// The session at `place` leaves, and those behind it move down by one. Nothing else changes. Takes no memory, and time linear
-    /// in the sessions.
+    /// The session at `place` leaves, and those behind it move down by one. Nothing else changes. Allocates no memory, and takes time
+    /// linear in the sessions.
+    #[tactic(auto, using(crate::proofs::Moves::dues_out))]
     pub fn remove(&mut self, place: u32)
         requires { place < length self.old.sessions }
         ensures sessions { self.new.sessions
@@ -261,11 +263,10 @@ impl<W: Timers> Sessions<W> {
         ensures last { self.new.last ≡ self.old.last }
     {
         take_out(&mut self.sessions, place);
-        self.timers.restart(self.sessions.len() as u32);
-        time_all(&self.sessions, &mut self.timers, self.last, &mut self.ids);
+        self.timers.remove(place);
     }
 
-    /// Whether the event may be applied: a tick always may, and an own event where a session stands at its place that takes
+    /// Whether the event may be applied: a tick always may, and an own event where a session stands at its place that accepts
     /// it.
     pub fn takes(&self, event: &ShardEvent) -> bool
         ensures { IsTrue result ↔ CanHappen (configs_of self.now.sessions) event.now }
@@ -276,13 +277,13 @@ impl<W: Timers> Sessions<W> {
         }
     }
 
-    /// One event. An own event is one that the session at its place takes; and `outs` has room for five outputs, or at a tick
+    /// One event. An own event is one that the session at its place accepts; and `outs` has room for five outputs, or at a tick
     /// for five of each session.
     ///
     /// An own event changes the session at its place and no other, in at most 2 steps of the timers. A tick is an event of every
     /// session; one below the last tick counts as the last. It forgets of exactly the sessions that a packet was heard whose
     /// Detection Time has expired by it (RFC 5880 section 6.8.4), and leaves nothing that is due. The outputs are appended, at a
-    /// tick by ascending place, and the answer is the session's, or `Ticked`. Takes no memory.
+    /// tick by ascending place, and the answer is the session's, or `Ticked`. Allocates no memory.
     pub fn apply<L: Ledger>(
         &mut self,
         event: &ShardEvent,
@@ -364,6 +365,7 @@ impl<W: Timers> Sessions<W> {
         ensures few { length self.now.sessions ≤ 65536 }
         ensures sound { AllByRecursion IsSound self.now.sessions }
     {
+        // proof: the read brings the invariant
         let _ = &self.last;
         self.sessions.as_slice()
     }

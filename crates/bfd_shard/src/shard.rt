@@ -18,8 +18,8 @@ use std::alloc::{AllocError, Global};
 use std::marker::Model;
 use std::sync::ledger::Ledger;
 
-/// For how many entries room is made at the making of a shard, where its journal takes so many: a journal that grows by and by
-/// is moved again and again, and leaves holes.
+/// For how many entries a new shard reserves room, if its journal accepts that many: a journal that grows in small steps is moved many
+/// times, and leaves holes.
 const MOST_AT_ONCE: usize = 200_000;
 
 /// Sessions by place, with their timers and the last tick, and the journal of their events.
@@ -45,7 +45,7 @@ impl<W: Timers> Model for ShardState<W> {
 
 impl<W: Timers> ShardState<W> {
     /// A shard of the sessions with these configurations, at most 65,536 and each within its ranges: all stand at the start, the last tick
-    /// is 0, and the journal is empty and takes `limit` entries. It fails only when out of memory.
+    /// is 0, and the journal is empty and accepts `limit` entries. It fails only when out of memory.
     pub fn make(
         alloc: Global,
         configs: Vec<SessionConfig>,
@@ -99,6 +99,7 @@ impl<W: Timers> ShardState<W> {
         ensures limit { IfOk result (λ shard. shard.limit ≡ limit) }
         ensures kept { IfOk result (λ shard. IsShard shard) }
     {
+        // proof: the read brings the invariant
         let _ = group.sessions();
         let journal = Vec::with_capacity(alloc, limit.min(MOST_AT_ONCE))?;
         Ok(ShardState {
@@ -108,7 +109,7 @@ impl<W: Timers> ShardState<W> {
         })
     }
 
-    /// Whether the event may be applied: a tick always may, and an own event where a session stands at its place that takes
+    /// Whether the event may be applied: a tick always may, and an own event where a session stands at its place that accepts
     /// it.
     pub fn takes(&self, event: &ShardEvent) -> bool
         ensures { IsTrue result ↔ CanHappen (configs_of self.now.sessions) event.now }
@@ -134,8 +135,8 @@ impl<W: Timers> ShardState<W> {
         Ok(())
     }
 
-    /// Lets the journal take `limit` entries, no fewer than before, and makes room for so many more, 200,000 at most. Nothing else changes.
-    /// It fails only when out of memory, and then all is as before.
+    /// Lets the journal accept `limit` entries, no fewer than before, and makes room for so many more, 200,000 at most. Nothing else
+    /// changes. It fails only when out of memory, and then all is as before.
     pub fn raise_limit(&mut self, limit: usize) -> Result<(), AllocError>
         requires { self.old.limit ≤ limit }
         ensures limit { OnOk result (self.new.limit ≡ limit) }
@@ -150,13 +151,13 @@ impl<W: Timers> ShardState<W> {
         Ok(())
     }
 
-    /// One event, brought by this caller. The shard is prepared; an own event is one that the session at its place takes;
+    /// One event of this caller. The shard is prepared; an own event is one that the session at its place accepts;
     /// and `outs` has room for five outputs, or at a tick for five of each session.
     ///
     /// The entry is appended to the journal. An own event changes the session at its place and no other, in at most 2 steps
     /// of the timers; a tick changes every session, and leaves nothing that is due by the last tick. The outputs are
-    /// appended, at a tick by ascending place, and the answer is the session's, or `Ticked`. `Full` comes exactly where the
-    /// journal has as many entries as its limit, which it tells; then all is as before. Takes no memory.
+    /// appended, at a tick by ascending place, and the answer is the session's, or `Ticked`. `Full` comes if and only if the
+    /// journal has as many entries as its limit, which it reports; then all is as before. Allocates no memory.
     pub fn apply<L: Ledger>(
         &mut self,
         caller: u32,
@@ -203,6 +204,7 @@ impl<W: Timers> ShardState<W> {
         ensures value { result.now ≡ self.now.sessions }
         ensures kept { IsShard self.now }
     {
+        // proof: the read brings the invariant
         let _ = &self.limit;
         self.group.sessions()
     }

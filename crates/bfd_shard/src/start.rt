@@ -1,15 +1,13 @@
 //! Sessions and timers at the start.
 ghost use Rattle.std.specs.Prelude.{ℕ, ◌≡◌, ◌<◌, ◌≤◌, IfOk, length, map};
 ghost use Rattle.std.specs.List.{AllByRecursion};
-ghost use Rattle.bfd_lanes.specs.Held.{room_of};
-ghost use Rattle.bfd_num.specs.Numbers.{greatest_tick};
 ghost use Rattle.bfd_session.specs.Due.{due as due_tick};
 ghost use Rattle.bfd_session.specs.Rows.{AreFit};
 ghost use Rattle.bfd_session.specs.Step.{IsSound, started};
 ghost use Rattle.bfd_shard.specs.Dealing.{share};
+ghost use Rattle.bfd_num.specs.Counting.{IsBlankOf};
 
 use crate::own::keep_due;
-use bfd_lanes::Ids;
 use bfd_num::Steps;
 use bfd_session::{Session, SessionConfig};
 use bfd_wheel::Timers;
@@ -59,9 +57,7 @@ pub(crate) fn share_of(
 fn keep_all<W: Timers, L: Ledger>(sessions: &[Session], timers: &mut W, blank: Blank)
     requires few { length sessions.now ≤ 65536 }
     requires long { length (W.dues timers.old) ≡ length sessions.now }
-    requires name { blank.name ≡ L.name }
-    requires parts { blank.parts ≡ L.parts }
-    requires some { 0 < blank.parts }
+    requires blank { IsBlankOf L.name L.parts blank.name blank.parts }
     ensures dues { W.dues timers.new ≡ map due_tick sessions.now }
 {
     let mut steps = Steps::<L>::new(blank);
@@ -69,20 +65,6 @@ fn keep_all<W: Timers, L: Ledger>(sessions: &[Session], timers: &mut W, blank: B
         let due = sessions[place].due();
         keep_due(timers, place as u32, due, &mut steps);
     }
-}
-
-/// Sets the due tick of each session in timers for so many, once they have come to the last tick.
-pub(crate) fn time_all<W: Timers>(sessions: &[Session], timers: &mut W, last: u64, ids: &mut Ids)
-    requires few { length sessions.now ≤ 65536 }
-    requires last { last ≤ greatest_tick }
-    requires long { length (W.dues timers.old) ≡ length sessions.now }
-    requires ids { length sessions.now ≤ room_of ids.old }
-    ensures dues { W.dues timers.new ≡ map due_tick sessions.now }
-    ensures ids { room_of ids.new ≡ room_of ids.old }
-{
-    ids.clear();
-    timers.advance(last, ids);
-    keep_all::<W, Brand>(sessions, timers, Blank::new(1));
 }
 
 /// Timers with the due tick of each session.

@@ -18,7 +18,7 @@ use bfd_session::{Session, tick_laws};
 use bfd_wheel::Timers;
 use std::sync::ledger::Ledger;
 
-/// The part that the session at this place has in the tick `last`; its due tick is kept anew.
+/// The part that the session at this place has in the tick `last`; its due tick is updated.
 fn tick_at<W: Timers, L: Ledger>(
     sessions: &mut Vec<Session>,
     timers: &mut W,

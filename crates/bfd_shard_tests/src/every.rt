@@ -1,5 +1,5 @@
 //! Every schedule of up to six events: a tick, or one of the first three packets to either side. How many end in which states,
-//! and how many packets all of them send, beside what a model of the definition in another language counted.
+//! and how many packets all of them send, compared with what a model of the definition in another language counted.
 ghost use Rattle.std.specs.Prelude.{◌≡◌, ◌≤◌, ◌<◌, IfSome};
 
 use crate::pair::peers;

@@ -2,6 +2,7 @@
 ghost use Rattle.std.specs.Prelude.{◌≡◌, ◌+◌, ◌^◌, ◌<◌, ◌≤◌, length, [], ◌∷◌, None, Some};
 ghost use Rattle.bfd_lanes.specs.Held.{room_of};
 ghost use Rattle.bfd_levels.specs.Height.{potential_of};
+ghost use Rattle.bfd_num.specs.Counting.{IsBlankOf};
 
 use bfd_lanes::Ids;
 use bfd_levels::{Levels, height};
@@ -64,9 +65,7 @@ fn advance_to_256<L: Ledger>(levels: &mut Levels, out: &mut Ids, steps: &mut Ste
 fn five<L: Ledger, R: Abort>(rt: &R, mut levels: Levels, mut out: Ids, blank: Blank)
     requires levels { levels ≡ record { clock = 0; dues = None ∷ None ∷ None ∷ None ∷ None ∷ [] } }
     requires out { out ≡ record { items = []; spare = 5 } }
-    requires name { blank.name ≡ L.name }
-    requires parts { blank.parts ≡ L.parts }
-    requires some { 0 < blank.parts }
+    requires blank { IsBlankOf L.name L.parts blank.name blank.parts }
 {
     let mut steps = Steps::<L>::new(blank);
     set_five(&mut levels, &mut steps);

@@ -1,4 +1,4 @@
-//! Lines of small schedules, beside what a model of the definition in another language wrote.
+//! Lines of small schedules, compared with what a model of the definition in another language wrote.
 ghost use Rattle.std.specs.Prelude.{◌≤◌};
 
 use bfd_pair::schedule::pair_line;

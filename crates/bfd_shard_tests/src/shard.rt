@@ -1,5 +1,6 @@
-//! A shard whose journal takes one entry.
+//! A shard whose journal accepts one entry.
 ghost use Rattle.std.specs.Prelude.{◌≡◌, ◌<◌};
+ghost use Rattle.bfd_num.specs.Counting.{IsBlankOf};
 
 use crate::pair::{FIRST, SECOND, config};
 use bfd_num::{Moment, Steps, Tick};
@@ -12,7 +13,7 @@ use std::marker::Brand;
 use std::process::Abort;
 use std::sync::ledger::{Blank, Ledger};
 
-/// A shard of one session, whose journal takes one entry.
+/// A shard of one session, whose journal accepts one entry.
 fn small_shard(alloc: Global) -> Result<ShardState<PlainTimers>, AllocError> {
     let mut configs = Vec::new(alloc);
     configs.push(SessionConfig::Pair(config(1, FIRST, SECOND, 1_000_000, 0)))?;
@@ -42,7 +43,7 @@ fn play<R: Abort, L: Ledger>(
     shard.apply(7, event, outs, steps)
 }
 
-/// The journal takes a question, and then neither another nor a tick.
+/// The journal accepts a question, and then neither another nor a tick.
 fn fills<R: Abort, L: Ledger>(
     rt: &R,
     shard: &mut ShardState<PlainTimers>,
@@ -51,9 +52,7 @@ fn fills<R: Abort, L: Ledger>(
     outs: &mut Outs,
     blank: Blank,
 )
-    requires name { blank.name ≡ L.name }
-    requires parts { blank.parts ≡ L.parts }
-    requires some { 0 < blank.parts }
+    requires blank { IsBlankOf L.name L.parts blank.name blank.parts }
 {
     let mut steps = Steps::<L>::new(blank);
     let first = play(rt, shard, question(moment), outs, &mut steps);

@@ -1,6 +1,7 @@
 //! Tables of calls on every form of timers.
 ghost use Rattle.std.specs.Prelude.{◌≡◌, ◌<◌, ◌≤◌, length};
 ghost use Rattle.bfd_lanes.specs.Held.{room_of};
+ghost use Rattle.bfd_num.specs.Counting.{IsBlankOf};
 
 use bfd_lanes::Ids;
 use bfd_levels::{ByCount, Levels};
@@ -51,9 +52,7 @@ fn play<W: Timers, L: Ledger>(timers: &mut W, call: Call, out: &mut Ids, steps: 
 fn in_jumps<W: Timers, L: Ledger, R: Abort>(rt: &R, mut timers: W, mut out: Ids, blank: Blank)
     requires count { length (W.dues timers) ≡ 17 }
     requires room { 17 ≤ room_of out }
-    requires name { blank.name ≡ L.name }
-    requires parts { blank.parts ≡ L.parts }
-    requires some { 0 < blank.parts }
+    requires blank { IsBlankOf L.name L.parts blank.name blank.parts }
 {
     let mut steps = Steps::<L>::new(blank);
     for id in 0..17 {
@@ -90,9 +89,7 @@ fn in_jumps<W: Timers, L: Ledger, R: Abort>(rt: &R, mut timers: W, mut out: Ids,
 fn out_of_order<W: Timers, L: Ledger, R: Abort>(rt: &R, mut timers: W, mut out: Ids, blank: Blank)
     requires count { length (W.dues timers) ≡ 17 }
     requires room { 17 ≤ room_of out }
-    requires name { blank.name ≡ L.name }
-    requires parts { blank.parts ≡ L.parts }
-    requires some { 0 < blank.parts }
+    requires blank { IsBlankOf L.name L.parts blank.name blank.parts }
 {
     let mut steps = Steps::<L>::new(blank);
     for id in 0..17 {
@@ -108,9 +105,7 @@ fn out_of_order<W: Timers, L: Ledger, R: Abort>(rt: &R, mut timers: W, mut out: 
 fn tick_by_tick<W: Timers, L: Ledger, R: Abort>(rt: &R, mut timers: W, mut out: Ids, blank: Blank)
     requires count { length (W.dues timers) ≡ 17 }
     requires room { 17 ≤ room_of out }
-    requires name { blank.name ≡ L.name }
-    requires parts { blank.parts ≡ L.parts }
-    requires some { 0 < blank.parts }
+    requires blank { IsBlankOf L.name L.parts blank.name blank.parts }
 {
     let mut steps = Steps::<L>::new(blank);
     play(&mut timers, Call::Set(0, 4095), &mut out, &mut steps);

@@ -1,4 +1,4 @@
-//! Scripts as text, beside what a model of the definition in another language wrote.
+//! Scripts as text, compared with what a model of the definition in another language wrote.
 ghost use Rattle.std.specs.Prelude.{◌≤◌};
 
 use bfd_load::generate;

@@ -6,6 +6,7 @@ ghost use Rattle.bfd_session.specs.declared.event.SessionConfig.TheVariants.{Pai
 ghost use Rattle.bfd_session.specs.Kinds.{configs_of};
 ghost use Rattle.bfd_session.specs.Rows.{AreFit};
 ghost use Rattle.bfd_session.specs.Step.{IsFit};
+ghost use Rattle.bfd_num.specs.Counting.{IsBlankOf};
 
 use bfd_num::{Moment, Steps, Tick};
 use bfd_packet::{Addr, Arrival, Payload, Port};
@@ -160,7 +161,7 @@ fn happening(alloc: Global, row: Row) -> Result<(u32, ShardEvent), AllocError> {
     }
 }
 
-/// Gives a row to the shard, which takes it.
+/// Gives a row to the shard, which accepts it.
 fn give<L: Ledger, R: Abort>(
     rt: &R,
     alloc: Global,
@@ -190,9 +191,7 @@ fn closed<L: Ledger, R: Abort>(
 ) -> Result<ShardState<HashedWheel>, AllocError>
     requires few { length configs.items ≤ 65536 }
     requires fit { AreFit configs.items }
-    requires name { blank.name ≡ L.name }
-    requires parts { blank.parts ≡ L.parts }
-    requires some { 0 < blank.parts }
+    requires blank { IsBlankOf L.name L.parts blank.name blank.parts }
     ensures { IfOk result (λ shard. configs_of shard.sessions ≡ configs.items) }
 {
     let mut outs = Outs::make(alloc, 5 * configs.len() + 5)?;

@@ -40,7 +40,12 @@ module _ (engine : Shards) where
     seen = λ s h. begins_through (seen_at k s) _ _ (a.seen s h) (t s h).first;
     each = λ s h. All-push (λ x. Begins (seen_at x.pass s) (seen_at m s)) js j
         (λ i d e. begins_through (seen_at (get_or js i d).pass s) _ _ (a.each s h i d e) (t s h).first) (t s h).other;
-    kept = λ s h. cc ((t s h).kept, a.kept s h, append_assoc (kept_at k s) (map (kept_by s) js) (kept_by s j ∷ []), map-append (kept_by s) js (j ∷ []));
+    kept = λ s h. cc (
+      (t s h).kept,
+      a.kept s h,
+      append_assoc (kept_at k s) (map (kept_by s) js) (kept_by s j ∷ []),
+      map-append (kept_by s) js (j ∷ []),
+    );
     made = λ s h. (t s h).made ∙ a.made s h;
   }
 
@@ -57,13 +62,16 @@ module _ (engine : Shards) where
       (cc (a.made s h, left.made s h, numbers_kept s js, map-append (λ p. p.0) (kept_at k s) (map (kept_by s) js), a.kept s h))
 
 -- what is true of what is made of each is true of what is made of the next
-pub all_made_next : {X Y : Type 0} (P : Y → Type 0) (f : X → Y) {items : List X} (xs ys : List X) (x : X) → xs ++ x ∷ ys ≡ items → All P (map f items) → P (f x)
+pub all_made_next : {X Y : Type 0} (P : Y → Type 0) (f : X → Y) {items : List X} (xs ys : List X) (x : X) → xs ++ x ∷ ys ≡ items
+    → All P (map f items) → P (f x)
 all_made_next P f {items} xs ys x is all = all_next P _ (map f xs) (map f ys) (f x) (cc (map-append f xs (x ∷ ys))) all
 
 -- a ready job more
-pub ready_more : {engine : Shards} {k l : Knows} {before after : List Job} {calls : List Call} {room : ℕ} → All (λ j. IsJobReady engine j) before → HasAdded engine k l before after calls room → All (λ j. IsJobReady engine j) after
+pub ready_more : {engine : Shards} {k l : Knows} {before after : List Job} {calls : List Call} {room : ℕ}
+    → All (λ j. IsJobReady engine j) before → HasAdded engine k l before after calls room → All (λ j. IsJobReady engine j) after
 ready_more {engine} {before} all added = rw added.after_is (All-push (λ j. IsJobReady engine j) before added.job all added.ready)
 
 -- what is made of each, with one more
-pub map_more : {A B C : Type 0} (f : A → B) (h : C → B) (xs : List A) {ys : List A} {x : A} (zs : List C) (z : C) → map f xs ≡ map h zs → f x ≡ h z → ys ≡ xs ++ x ∷ [] → map f ys ≡ map h (zs ++ z ∷ [])
+pub map_more : {A B C : Type 0} (f : A → B) (h : C → B) (xs : List A) {ys : List A} {x : A} (zs : List C) (z : C) → map f xs ≡ map h zs
+    → f x ≡ h z → ys ≡ xs ++ x ∷ [] → map f ys ≡ map h (zs ++ z ∷ [])
 map_more f h xs {x} zs z same one is = cc (map-append f xs (x ∷ []), map-append h zs (z ∷ []))

@@ -1,5 +1,6 @@
 -- What a job is after some of its calls.
-use Rattle.std.proofs.Common.{◌≡◌, ◌<◌, ◌++◌, ◌∷◌, [], ℕ, suc, List, length, map, get_or, Result, Ok, Err, refl, ap, ap₂, sym, ◌∙◌, subst, append_assoc, append-nil, le_refl, arith}
+use Rattle.std.proofs.Common.{◌≡◌, ◌<◌, ◌++◌, ◌∷◌, [], ℕ, suc, List, length, map, get_or, Result, Ok, Err, refl, ap, ap₂, sym, ◌∙◌, subst}
+use Rattle.std.proofs.Common.{append_assoc, append-nil, le_refl, arith}
 use Rattle.bfd_rules.specs.declared.outputs.Out.{Out}
 use Rattle.bfd_session.specs.declared.event.Answer.{Answer}
 use Rattle.bfd_shard.specs.declared.entry.Entry.{Entry}
@@ -44,19 +45,29 @@ grown_turn k l shard between new t = record {
   kept = t.kept;
 }
 
-grown_by : (engine : Shards) (act : Act) (k l : Knows) (outs outs2 : List Out) (result : Result Answer EngineFault) → IsDone act engine k l outs outs2 result → HasGrown k l
+grown_by : (engine : Shards) (act : Act) (k l : Knows) (outs outs2 : List Out) (result : Result Answer EngineFault)
+    → IsDone act engine k l outs outs2 result → HasGrown k l
 grown_by engine (Rests told answer) k l outs outs2 result d = subst (HasGrown k) (sym d.1) (grown_same k)
 grown_by engine (Turns shard event) k l outs outs2 (Ok answer) d = grown_turn k l _ _ _ d.turned
 grown_by engine (Turns shard event) k l outs outs2 (Err fault) d = grown_turn k l _ _ [] d.turned
 
 -- calls after calls
-made_then : (engine : Shards) (xs ys : List Call) (k l m : Knows) (ss ts : List Saw) → WereMade engine xs k l ss → WereMade engine ys l m ts → WereMade engine (ys ++ xs) k m (ss ++ ts)
+made_then : (engine : Shards) (xs ys : List Call) (k l m : Knows) (ss ts : List Saw) → WereMade engine xs k l ss → WereMade engine ys l m ts
+    → WereMade engine (ys ++ xs) k m (ss ++ ts)
 made_then engine xs [] k l m ss ts a b = rw b.0 (rw (← sym (append-nil ss) ∙ ap (λ w. ss ++ w) (sym b.1)) a)
-made_then engine xs (y ∷ ys) k l m ss ts a b = (b.0, ss ++ b.1, b.2, made_then engine xs ys k l b.0 ss b.1 a b.3, b.4, cc (append_assoc ss b.1 (b.2 ∷ [])))
+made_then engine xs (y ∷ ys) k l m ss ts a b = (
+  b.0,
+  ss ++ b.1,
+  b.2,
+  made_then engine xs ys k l b.0 ss b.1 a b.3,
+  b.4,
+  cc (append_assoc ss b.1 (b.2 ∷ [])),
+)
 
 module _ (engine : Shards) where
   -- a job whose pass, calls and saw are as they were
-  pub worked_same : {a : Job} (b : Job) → IsJobReady engine a → b.pass ≡ a.pass → b.room ≡ a.room → b.calls.items ≡ a.calls.items → b.saw.items ≡ a.saw.items → HasCalled engine a b
+  pub worked_same : {a : Job} (b : Job) → IsJobReady engine a → b.pass ≡ a.pass → b.room ≡ a.room → b.calls.items ≡ a.calls.items
+      → b.saw.items ≡ a.saw.items → HasCalled engine a b
   worked_same {a} b ready same room calls saw = record {
     ready = record {
       of = rw same ready.of;
@@ -72,7 +83,8 @@ module _ (engine : Shards) where
   }
 
   -- one call more
-  pub worked_one : {a : Job} (b : Job) (call : Call) (saw : Saw) → IsJobReady engine a → IsOf engine b.pass.1 → AllThere b.pass.1 → b.room ≡ a.room → a.calls.items ≡ b.calls.items ++ call ∷ []
+  pub worked_one : {a : Job} (b : Job) (call : Call) (saw : Saw) → IsJobReady engine a → IsOf engine b.pass.1 → AllThere b.pass.1
+      → b.room ≡ a.room → a.calls.items ≡ b.calls.items ++ call ∷ []
       → b.saw.items ≡ a.saw.items ++ saw ∷ [] → WasMade engine call a.pass b.pass saw → HasCalled engine a b
   worked_one {a} b call saw ready of there room calls saws made = record {
     ready = record { of = of; there = there; room = λ s. (omega (arith, ready.room s, room)) };
@@ -96,7 +108,8 @@ module _ (engine : Shards) where
   }
 
 -- the same number at each place
-same_numbers : (xs ys : List Job) → length ys ≡ length xs → ((i : ℕ) (d : Job) → i < length xs → number_of (get_or ys i d) ≡ number_of (get_or xs i d))
+same_numbers : (xs ys : List Job) → length ys ≡ length xs
+    → ((i : ℕ) (d : Job) → i < length xs → number_of (get_or ys i d) ≡ number_of (get_or xs i d))
     → map number_of ys ≡ map number_of xs
 same_numbers [] [] long each = refl
 same_numbers [] (y ∷ ys) long each = absurd (omega (arith, long))
@@ -104,5 +117,6 @@ same_numbers (x ∷ xs) [] long each = absurd (omega (arith, long))
 same_numbers (x ∷ xs) (y ∷ ys) long each =
     ap₂ (λ n ns. n ∷ ns) (each 0 x (omega arith)) (same_numbers xs ys (omega (arith, long)) (λ i d h. each (suc i) d (omega (arith, h))))
 
-pub numbers_each : {engine : Shards} (xs ys : List Job) → length ys ≡ length xs → ((i : ℕ) (d : Job) → i < length xs → HasEndedCalls engine (get_or xs i d) (get_or ys i d)) → map number_of ys ≡ map number_of xs
+pub numbers_each : {engine : Shards} (xs ys : List Job) → length ys ≡ length xs
+    → ((i : ℕ) (d : Job) → i < length xs → HasEndedCalls engine (get_or xs i d) (get_or ys i d)) → map number_of ys ≡ map number_of xs
 numbers_each xs ys long each = same_numbers xs ys long (λ i d h. (each i d h).worked.grown.number)

@@ -25,7 +25,8 @@ WasMade engine call k l saw = IsDone (act_of engine call) engine k l [] saw.outs
 abbrev pub WereMade : Shards → List Call → Knows → Knows → List Saw → Type 0
 WereMade engine [] k l saw = (l ≡ k) × (saw ≡ [])
 WereMade engine (call ∷ calls) k l saw =
-    (m : Knows) × (before : List Saw) × (last : Saw) × WereMade engine calls k m before × WasMade engine call m l last × (saw ≡ before ++ last ∷ [])
+    (m : Knows) × (before : List Saw) × (last : Saw) × WereMade engine calls k m before × WasMade engine call m l last
+    × (saw ≡ before ++ last ∷ [])
 
 -- a pass that knew k knows l after calls of its own: what it has seen of each shard only grew, no word that it met fell, and what
 -- it made and joined is as before

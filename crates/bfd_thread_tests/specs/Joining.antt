@@ -38,7 +38,8 @@ pub record HasJoined (engine : Shards) (k l : Knows) (jobs : List Job) : Type 0 
   pub own : (shard : ℕ) → shard < length engine.locks → mine l shard ≡ mine k shard
   pub seen : (shard : ℕ) → shard < length engine.locks → Begins (seen_at k shard) (seen_at l shard)
   pub each : (shard : ℕ) → shard < length engine.locks → All (λ (j : Job). Begins (seen_at j.pass shard) (seen_at l shard)) jobs
-  pub kept : (shard : ℕ) → shard < length engine.locks → kept_at l shard ≡ kept_at k shard ++ map (λ (j : Job). (j.pass.0, mine j.pass shard)) jobs
+  pub kept : (shard : ℕ) → shard < length engine.locks
+      → kept_at l shard ≡ kept_at k shard ++ map (λ (j : Job). (j.pass.0, mine j.pass shard)) jobs
   pub made : (shard : ℕ) → shard < length engine.locks → made_at l shard ≡ made_at k shard
 
 -- the shards of an engine that was closed once the passes of these jobs were joined

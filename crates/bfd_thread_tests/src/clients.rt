@@ -1,4 +1,4 @@
-//! A client that is told the state changes of a shard, beside a thread that hands packets and ticks to the engine.
+//! A client that receives the state changes of a shard, alongside a thread that hands packets and ticks to the engine.
 ghost use Rattle.std.specs.Prelude.{◌≡◌, ◌++◌, ◌∷◌, [], IfSome, length, map};
 ghost use Rattle.std.specs.List.{All};
 ghost use Rattle.bfd_engine.specs.Calls.{seen_at};
@@ -19,14 +19,14 @@ use std::alloc::Global;
 use std::sync::Wait;
 use std::thread::{Threads, join_mut};
 
-/// A cursor over the history of shard 0, and the changes that it has told.
+/// A cursor over the history of shard 0, and the changes that it has reported.
 #[derive(Drop)]
 struct Client {
     watch: Watch<PlainTimers>,
     told: Vec<Change>,
 }
 
-/// A client that has taken no entry.
+/// A client that has accepted no entry.
 #[tactic(auto, unfolding(bfd_watch::specs::Changes::changes_from, bfd_watch::specs::Changes::outcomes_after))]
 fn new_client(alloc: Global) -> Option<Client>
     ensures { IfSome result (λ client. IsClientTold [] client.watch client.told.items) }
@@ -66,7 +66,7 @@ fn take_all(alloc: Global, client: &mut Client, list: &[Entry]) -> Option<()>
     Some(())
 }
 
-/// A client that was told what came to the shard so far.
+/// A client that received what came to the shard so far.
 #[tactic(auto, using(crate::proofs::Following::grown_read, crate::proofs::Worked::grown_same))]
 fn start<W: Timers, R: Wait>(
     rt: &R,
@@ -141,7 +141,7 @@ fn polls<W: Timers, R: Wait>(
     Some(())
 }
 
-/// The jobs in threads of their own, and the client's polls beside them.
+/// The jobs in threads of their own, and the client's polls alongside them.
 #[tactic(auto, using(crate::proofs::Following::open_grown))]
 fn beside<W: Timers + Send, R: Threads + Wait + Sync>(
     rt: &R,
@@ -179,7 +179,7 @@ fn beside<W: Timers + Send, R: Threads + Wait + Sync>(
     told
 }
 
-/// What a watch tells of a whole journal.
+/// What a watch reports of a whole journal.
 fn history(alloc: Global, journal: &[Entry]) -> Option<Vec<Change>> {
     let mut client = new_client(alloc)?;
     take_all(alloc, &mut client, journal)?;
@@ -191,7 +191,7 @@ fn are_many_and_same(told: &[Change], wanted: &[Change]) -> bool {
     told == wanted && told.len() > 20
 }
 
-/// Whether a client that polled while packets came, and once after that, was told what the closed engine's journal tells.
+/// Whether a client that polled while packets came, and once after that, received what the closed engine's journal reports.
 #[tactic(auto, using(crate::proofs::Rooms::room_enough, crate::proofs::Following::open_grown))]
 fn told_beside<R: Threads + Wait + Sync>(rt: &R, alloc: Global) -> Option<bool> {
     let (engine, mut first) = opened(alloc, 100_000)?;

@@ -1,8 +1,9 @@
-//! Eight threads on three shards, beside the journals that they leave.
+//! Eight threads on three shards, compared with the journals that they leave.
 ghost use Rattle.std.specs.Prelude.{◌≡◌, ◌<◌, [], IfSome, length, map};
 ghost use Rattle.std.specs.List.{All};
 ghost use Rattle.bfd_thread_tests.specs.Joining.{HasOpen};
 ghost use Rattle.bfd_thread_tests.specs.Ready.{IsJobReady, number_of};
+ghost use Rattle.bfd_num.specs.Counting.{IsBlankOf};
 
 use crate::embedding::{Call, Job, Saw, add_job, at_once, finish};
 use crate::engine::{Plain, fresh, opened, play};
@@ -104,7 +105,7 @@ struct Sight {
     at: usize,
 }
 
-/// What the threads saw, beside the shards of their calls.
+/// What the threads saw, alongside the shards of their calls.
 fn sights(alloc: Global, saws: Vec<Vec<Saw>>, shards: Vec<Vec<u32>>) -> Option<Vec<Sight>> {
     let mut shards = shards;
     let mut list = Vec::new(alloc);
@@ -250,9 +251,7 @@ fn beside_journals<L: Ledger>(
     sights: &mut [Sight],
     blank: Blank,
 ) -> Option<usize>
-    requires name { blank.name ≡ L.name }
-    requires parts { blank.parts ≡ L.parts }
-    requires some { 0 < blank.parts }
+    requires blank { IsBlankOf L.name L.parts blank.name blank.parts }
 {
     let mut steps = Steps::<L>::new(blank);
     let mut count = 0usize;

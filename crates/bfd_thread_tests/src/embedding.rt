@@ -1,7 +1,7 @@
 //! An engine as a daemon embeds it: threads that share it by reference, each with a pass of its own.
 //!
 //! A `Job` is a thread's pass, its calls, and what it saw of them. The job of a packet thread has arrivals and commands, that of
-//! a timer thread has ticks of every shard. `add_job` makes a pass for one, `at_once` runs any number of them beside one another, and
+//! a timer thread has ticks of every shard. `add_job` makes a pass for one, `at_once` runs any number of them in parallel, and
 //! `finish` joins the passes and closes the engine.
 //!
 //! It promises that each job comes back in its place, with its number and no

@@ -1,4 +1,4 @@
-//! Two shards' turns at one time, a full journal, calls for nobody, and a session that is there twice.
+//! Two shards' turns at one time, a full journal, calls for nobody, and a session that is given twice.
 ghost use Rattle.std.specs.Prelude.{◌≡◌, ◌≤◌, ◌<◌, ◌+◌, [], IfOk, IfSome, OnErr, length};
 ghost use Rattle.bfd_session.specs.Step.{IsFit};
 ghost use Rattle.bfd_session.specs.Kinds.{discr_of};
@@ -7,6 +7,7 @@ ghost use Rattle.bfd_engine.specs.Engines.{IsOf, AllThere};
 ghost use Rattle.bfd_engine.specs.Opening.{IsNewPass};
 ghost use Rattle.bfd_session.specs.Tables.{IsSorted};
 ghost use Rattle.bfd_thread_tests.specs.Joining.{HasOpen};
+ghost use Rattle.bfd_num.specs.Counting.{IsBlankOf};
 
 use crate::eight::packet;
 use bfd_demux::BuildFault;
@@ -61,7 +62,7 @@ fn configs(alloc: Global) -> Result<Vec<SessionConfig>, AllocError>
     Ok(list)
 }
 
-/// An engine of four sessions in three shards, whose journals take so many entries.
+/// An engine of four sessions in three shards, whose journals accept so many entries.
 #[tactic(auto, using(crate::proofs::Joins::open_new))]
 pub(crate) fn opened(alloc: Global, limit: usize) -> Option<(Plain, EnginePass)>
     ensures pass { IfSome result (λ r. IsNewPass r.0 r.1) }
@@ -108,7 +109,7 @@ pub(crate) fn part(engine: &Plain, alloc: Global, first: &mut EnginePass) -> Opt
     }
 }
 
-/// What others are told: one of shard 1, a second of shard 0 while a caller has its turn, and the second again after that.
+/// What others are answered: one of shard 1, a second of shard 0 while a caller has its turn, and the second again after that.
 fn are_told(
     beside: Result<(), HoldFault>,
     same: Result<(), HoldFault>,
@@ -117,7 +118,7 @@ fn are_told(
     beside == Ok(()) && same == Err(HoldFault::Busy(1, 1)) && after == Ok(())
 }
 
-/// Whether others are told so of shards 1 and 0 while a caller has the turn of shard 0, and of shard 0 after that.
+/// Whether others are answered so of shards 1 and 0 while a caller has the turn of shard 0, and of shard 0 after that.
 fn told_beside(
     engine: &Plain,
     first: &mut EnginePass,
@@ -193,7 +194,7 @@ pub(crate) fn play<L: Ledger>(
     }
 }
 
-/// A question to a session, or a command for it, with room for what it puts out.
+/// A question to a session, or a command for it, with room for what it emits.
 fn asks<R: Wait, L: Ledger>(
     rt: &R,
     engine: &Plain,
@@ -217,7 +218,7 @@ fn asks<R: Wait, L: Ledger>(
     }
 }
 
-/// What calls of an engine with one place in each journal come to: a question fills it, and whatever is for its session after that is
+/// What calls of an engine with one place in each journal result in: a question fills it, and whatever is for its session after that is
 /// Full; a question and a command for nobody are refused.
 fn are_full(told: [Result<Answer, EngineFault>; 5]) -> bool {
     let [shown, again, command, stray, reset] = told;
@@ -226,7 +227,7 @@ fn are_full(told: [Result<Answer, EngineFault>; 5]) -> bool {
     shown.is_ok() && again == full && command == full && stray == unknown && reset == unknown
 }
 
-/// Whether these calls come to that, and a packet for nobody is discarded.
+/// Whether these calls result in that, and a packet for nobody is discarded.
 fn asks_on<R: Wait, L: Ledger>(
     rt: &R,
     engine: &Plain,
@@ -239,9 +240,7 @@ fn asks_on<R: Wait, L: Ledger>(
     requires of { IsOf engine.now pass.old.1 }
     requires there { AllThere pass.old.1 }
     requires room { outs.old.room ≡ 5 }
-    requires name { blank.name ≡ L.name }
-    requires parts { blank.parts ≡ L.parts }
-    requires some { 0 < blank.parts }
+    requires blank { IsBlankOf L.name L.parts blank.name blank.parts }
 {
     let mut steps = Steps::<L>::new(blank);
     let reset = Some(Cmd::Reset);
@@ -313,9 +312,7 @@ fn sends_once<R: Wait + Abort, L: Ledger>(
     requires of { IsOf engine.now pass.old.1 }
     requires there { AllThere pass.old.1 }
     requires shards { length engine.now.locks ≡ 3 }
-    requires name { blank.name ≡ L.name }
-    requires parts { blank.parts ≡ L.parts }
-    requires some { 0 < blank.parts }
+    requires blank { IsBlankOf L.name L.parts blank.name blank.parts }
 {
     let mut steps = Steps::<L>::new(blank);
     let (early, late) = ticks;
@@ -340,7 +337,7 @@ fn a_tick_below_the_last(rt: HostRuntime) {
     );
 }
 
-/// What a session that is there twice comes to.
+/// What a session that is given twice results in.
 fn twice(alloc: Global) -> Result<Option<OpenFault>, AllocError> {
     let mut list = Vec::new(alloc);
     list.push(config(1))?;

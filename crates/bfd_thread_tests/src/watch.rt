@@ -7,7 +7,7 @@ use bfd_watch::{Change, Watch, WatchFault};
 use bfd_wheel::PlainTimers;
 use std::alloc::Global;
 
-/// Takes an entry of a tick, where the watch may be given it.
+/// Gives the watch an entry of a tick, where it may be given it.
 fn take(
     watch: &mut Watch<PlainTimers>,
     number: u64,
@@ -21,7 +21,7 @@ fn take(
     Some(watch.take(entry, changes))
 }
 
-/// Whether a watch with the limit 1 takes one entry, and refuses the second.
+/// Whether a watch with the limit 1 accepts one entry, and refuses the second.
 fn fills(alloc: Global) -> Option<bool> {
     let mut watch = Watch::make(alloc, configs_of(alloc, 0).ok()?, 1).ok()?;
     let mut changes = Vec::new(alloc);

@@ -36,7 +36,7 @@ fn many<R: Threads + Wait + Sync>(
     Some(sink)
 }
 
-/// Whether both reports are there and are the same, and tell of more than this many bytes.
+/// Whether both reports are present and are the same, and have more than this many bytes.
 fn are_same(one: Option<MemSink>, other: Option<MemSink>, least: usize) -> bool {
     match (one, other) {
         (Some(one), Some(other)) => {

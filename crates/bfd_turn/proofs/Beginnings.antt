@@ -1,5 +1,6 @@
 -- Lists of notes that begin one another, and a caller's calls in them.
-use Rattle.bfd_turn.proofs.Common.{◌≡◌, ◌≢◌, ℕ, ◌≤◌, Bool, true, false, cond, eqb, List, [], ◌∷◌, ◌++◌, length, sym, refl, ap, ◌∙◌, arith, length-append, append_assoc, ne_eqb, nat_le, append-nil, filter-append, Begins, longer, shorter, calls}
+use Rattle.bfd_turn.proofs.Common.{◌≡◌, ◌≢◌, ℕ, ◌≤◌, Bool, true, false, cond, eqb, List, [], ◌∷◌, ◌++◌, length, sym, refl, ap, ◌∙◌, arith}
+use Rattle.bfd_turn.proofs.Common.{length-append, append_assoc, ne_eqb, nat_le, append-nil, filter-append, Begins, longer, shorter, calls}
 use Rattle.std.proofs.lemmas.Bool.Decides.{nat_tests}
 
 module _ {A : Type 0} where
@@ -48,12 +49,14 @@ module _ {A : Type 0} where
   pub shorter_begins : (xs ys h : List A) → Begins xs h → Begins ys h → Begins (shorter xs ys) h
   shorter_begins xs ys h p q = either_longer (λ l. Begins l h) (nat_le (length ys) (length xs)) q p
 
-  by_length : (b : Bool) (xs ys : List A) → nat_le (length ys) (length xs) ≡ b → (length xs ≤ length (cond b xs ys)) × (length ys ≤ length (cond b xs ys)) × (length (cond b ys xs) ≤ length (cond b xs ys))
+  by_length : (b : Bool) (xs ys : List A) → nat_le (length ys) (length xs) ≡ b → (length xs ≤ length (cond b xs ys))
+      × (length ys ≤ length (cond b xs ys)) × (length (cond b ys xs) ≤ length (cond b xs ys))
   by_length true xs ys is = (omega arith, grind (arith, nat_tests), grind (arith, nat_tests))
   by_length false xs ys is = (grind (arith, nat_tests), omega arith, grind (arith, nat_tests))
 
   -- the longer list is no shorter than either, nor than the shorter
-  pub longer_length : (xs ys : List A) → (length xs ≤ length (longer xs ys)) × (length ys ≤ length (longer xs ys)) × (length (shorter xs ys) ≤ length (longer xs ys))
+  pub longer_length : (xs ys : List A) → (length xs ≤ length (longer xs ys)) × (length ys ≤ length (longer xs ys))
+      × (length (shorter xs ys) ≤ length (longer xs ys))
   longer_length xs ys = by_length (nat_le (length ys) (length xs)) xs ys refl
 
 module _ {A : Type 0} (by : A → ℕ) (n : ℕ) where
@@ -62,14 +65,16 @@ module _ {A : Type 0} (by : A → ℕ) (n : ℕ) where
   calls_added seen rest is same = nothing_added (calls by n seen) (calls by n rest) (cc (filter-append (λ x. eqb (by x) n) seen rest))
 
   pub calls_front : (v : List A) {h : List A} → Begins v h → calls by n h ≡ [] → calls by n v ≡ []
-  calls_front v b none = (none_of_either (calls by n v) (calls by n b.0) (sym (filter-append (λ x. eqb (by x) n) v b.0) ∙ (sym (ap (calls by n) b.1) ∙ none))).0
+  calls_front v b none = (none_of_either (calls by n v) (calls by n b.0)
+      (sym (filter-append (λ x. eqb (by x) n) v b.0) ∙ (sym (ap (calls by n) b.1) ∙ none))).0
 
   -- nor has a list between the two
   pub calls_between : (v w h : List A) → Begins v w → Begins w h → calls by n h ≡ calls by n v → calls by n h ≡ calls by n w
   calls_between v w h a b same =
       let f = λ (x : A). eqb (by x) n in
       let whole : h ≡ v ++ (a.0 ++ b.0) = cc (append_assoc v a.0 b.0) in
-      let rest = (none_of_either (calls by n a.0) (calls by n b.0) (sym (filter-append f a.0 b.0) ∙ (calls_added v (a.0 ++ b.0) whole same))).1 in
+      let rest = (none_of_either (calls by n a.0) (calls by n b.0)
+      (sym (filter-append f a.0 b.0) ∙ (calls_added v (a.0 ++ b.0) whole same))).1 in
       cc (filter-append f w b.0, append-nil (calls by n w))
 
   -- a note of another caller is no call of n

@@ -1,5 +1,8 @@
 -- What stays of the rule where a step changes other views.
-use Rattle.bfd_turn.proofs.Common.{◌≡◌, ◌≢◌, ◌⊎◌, ℕ, ◌+◌, ◌^◌, ◌<◌, ◌≤◌, List, [], ◌∷◌, ◌++◌, set, sym, refl, ap, ◌∙◌, subst, inl, inr, ⊎_elim, arith, Option, Some, None, some, none, dite, ℕ_discrete, get_elem?, State, at_set, set_here, set_else, View, Known, known, known_of, Idle, Holding, Joined, Begins, calls, AllKept, total_taken, Fits, AtHome, Out, Keeps, Role}
+use Rattle.bfd_turn.proofs.Common.{◌≡◌, ◌≢◌, ◌⊎◌, ℕ, ◌+◌, ◌^◌, ◌<◌, ◌≤◌, List, [], ◌∷◌, ◌++◌, set, sym, refl, ap, ◌∙◌, subst, inl, inr}
+use Rattle.bfd_turn.proofs.Common.{⊎_elim, arith, Option, Some, None, some, none, dite, ℕ_discrete, get_elem?, State, at_set, set_here}
+use Rattle.bfd_turn.proofs.Common.{set_else, View, Known, known, known_of, Idle, Holding, Joined, Begins, calls, AllKept, total_taken, Fits}
+use Rattle.bfd_turn.proofs.Common.{AtHome, Out, Keeps, Role}
 use mathlib.Core.Option as maybe
 use Rattle.bfd_turn.proofs.Beginnings.{begins_through}
 use Rattle.bfd_turn.proofs.Seats.{at_below, at_same}
@@ -21,8 +24,10 @@ one_place {i} {j} p q = cc
 
 module _ {N B : Type 0} (by : N → ℕ) where
   -- a view that a step does not change
-  pub fits_moved : {h : List N} {lb : B} {now : ℕ} {made : List ℕ} {joined : List (ℕ × List N)} {seat : ℕ → Option ℕ} {i : ℕ} {v : View N B} {h' : List N} (now' : ℕ) (made' : List ℕ) (joined' : List (ℕ × List N)) (seat' : ℕ → Option ℕ)
-      → Fits by h lb now made joined seat i v → Begins h h' → calls by v.number h' ≡ calls by v.number h → now ≤ now' → seat' v.number ≡ seat v.number
+  pub fits_moved : {h : List N} {lb : B} {now : ℕ} {made : List ℕ} {joined : List (ℕ × List N)} {seat : ℕ
+      → Option ℕ} {i : ℕ} {v : View N B} {h' : List N} (now' : ℕ) (made' : List ℕ) (joined' : List (ℕ × List N)) (seat' : ℕ → Option ℕ)
+      → Fits by h lb now made joined seat i v → Begins h h' → calls by v.number h' ≡ calls by v.number h → now ≤ now'
+      → seat' v.number ≡ seat v.number
       → (v.number ≡ 0 → (made' ≡ made) × (joined' ≡ joined)) → Fits by h' lb now' made' joined' seat' i v
   fits_moved {h} {v} {h'} now' made' joined' seat' f more same later stays kept = record {
     seen = begins_through v.seen h h' f.seen more;
@@ -37,25 +42,31 @@ module _ {N B : Type 0} (by : N → ℕ) where
   }
 
   -- what is kept of the joined passes is true of each view's own list, which is the rule's or empty
-  pub kept_of : {h : List N} {lb : B} {now : ℕ} {made : List ℕ} {joined : List (ℕ × List N)} {seat : ℕ → Option ℕ} {i : ℕ} {v : View N B} {notes : List N}
+  pub kept_of : {h : List N} {lb : B} {now : ℕ} {made : List ℕ} {joined : List (ℕ × List N)} {seat : ℕ
+      → Option ℕ} {i : ℕ} {v : View N B} {notes : List N}
       → Fits by h lb now made joined seat i v → AllKept by joined h → notes ≡ h → AllKept by v.joined notes
   kept_of {joined} {v} {notes} f kept is =
       let all : AllKept by joined notes = rw is kept in
       dite (ℕ_discrete v.number 0) (λ z. rw ((f.first z).1) all) (λ ne. rw (f.others ne) (λ k d below. absurd (omega arith)))
 
 module _ {N B : Type 0} (views : List (View N B)) (i : ℕ) (v w : View N B) (at : get_elem? views i ≡ some v) where
-  pub quiet_to : v.role ≢ Holding → (j : ℕ) (u : View N B) → get_elem? views j ≡ some u → u.role ≡ Holding → get_elem? (set views i w) j ≡ some u
-  quiet_to quiet j u e holds = set_else views i j w (λ same. quiet (cc (at_same views i v u at (subst (λ k. get_elem? views k ≡ some u) same e)))) ∙ e
+  pub quiet_to : v.role ≢ Holding → (j : ℕ) (u : View N B) → get_elem? views j ≡ some u → u.role ≡ Holding
+      → get_elem? (set views i w) j ≡ some u
+  quiet_to quiet j u e holds = set_else views i j w
+      (λ same. quiet (cc (at_same views i v u at (subst (λ k. get_elem? views k ≡ some u) same e)))) ∙ e
 
-  pub quiet_from : w.role ≢ Holding → (j : ℕ) (u : View N B) → get_elem? (set views i w) j ≡ some u → u.role ≡ Holding → get_elem? views j ≡ some u
-  quiet_from quiet j u e holds = ⊎_elim (λ (t : (j ≡ i) × (w ≡ u)). absurd (quiet (ap (λ (x : View N B). x.role) t.1 ∙ holds))) (λ (t : (j ≢ i) × (get_elem? views j ≡ some u)). t.1) (at_set views i j w u e)
+  pub quiet_from : w.role ≢ Holding → (j : ℕ) (u : View N B) → get_elem? (set views i w) j ≡ some u → u.role ≡ Holding
+      → get_elem? views j ≡ some u
+  quiet_from quiet j u e holds = ⊎_elim (λ (t : (j ≡ i) × (w ≡ u)). absurd (quiet (ap (λ (x : View N B). x.role) t.1 ∙ holds)))
+      (λ (t : (j ≢ i) × (get_elem? views j ≡ some u)). t.1) (at_set views i j w u e)
 
 module _ {V N B : Type 0} (notes : V → List N) (base : V → B) (h : List N) (lb : B) where
   abbrev pub Place : ℕ → State (Option V) (View N B) → Type 0
   Place now s = AtHome notes base h lb now s ⊎ Out h now (s.homes ≡ none ∷ []) s.views
 
   -- the value stays where it is, and who holds the turn holds it still
-  pub place_moves : (s : State (Option V) (View N B)) (words : List ℕ) (views : List (View N B)) (now : ℕ) → total_taken views ≡ total_taken s.views
+  pub place_moves : (s : State (Option V) (View N B)) (words : List ℕ) (views : List (View N B)) (now : ℕ)
+      → total_taken views ≡ total_taken s.views
       → ((j : ℕ) (u : View N B) → get_elem? s.views j ≡ some u → u.role ≡ Holding → get_elem? views j ≡ some u)
       → ((j : ℕ) (u : View N B) → get_elem? views j ≡ some u → u.role ≡ Holding → get_elem? s.views j ≡ some u)
       → Place now s → Place now record { words = words; homes = s.homes; views = views }
@@ -81,7 +92,8 @@ module _ {V N B : Type 0} (notes : V → List N) (base : V → B) (h : List N) (
 
 module _ {V N B : Type 0} (notes : V → List N) (by : N → ℕ) (base : V → B) where
   -- one live view changes, and the history stays
-  pub one_seat : (s : State (Option V) (View N B)) (k : Keeps notes by base s) (words : List ℕ) (homes : List (maybe.Option (Option V))) (now : ℕ) (i : ℕ) (v w : View N B)
+  pub one_seat : (s : State (Option V) (View N B)) (k : Keeps notes by base s) (words : List ℕ) (homes : List (maybe.Option (Option V)))
+      (now : ℕ) (i : ℕ) (v w : View N B)
       → get_elem? s.views i ≡ some v → w.role ≢ Joined → words ≡ now ∷ [] → now + 1 < 2 ^ 64 → k.now ≤ now
       → Place notes base k.history k.lock_base now record { words = words; homes = homes; views = set s.views i w }
       → Fits by k.history k.lock_base now k.made k.joined k.seat i w → (v.seen ≡ k.history → w.seen ≡ k.history)
@@ -97,8 +109,10 @@ module _ {V N B : Type 0} (notes : V → List N) (by : N → ℕ) (base : V → 
     room = room;
     place = place;
     live = λ j u e alive. ⊎_elim
-        (λ (t : (j ≡ i) × (w ≡ u)). subst (λ (x : ℕ × View N B). Fits by k.history k.lock_base now k.made k.joined k.seat x.0 x.1) (λ z. (sym t.0 z, t.1 z)) fits)
-        (λ (t : (j ≢ i) × (get_elem? s.views j ≡ some u)). fits_moved by now k.made k.joined k.seat (k.live j u t.1 alive) ([], begins_all) refl later refl (λ _. (refl, refl)))
+        (λ (t : (j ≡ i) × (w ≡ u)). subst (λ (x : ℕ × View N B). Fits by k.history k.lock_base now k.made k.joined k.seat x.0 x.1)
+        (λ z. (sym t.0 z, t.1 z)) fits)
+        (λ (t : (j ≢ i) × (get_elem? s.views j ≡ some u)). fits_moved by now k.made k.joined k.seat (k.live j u t.1 alive) ([], begins_all)
+        refl later refl (λ _. (refl, refl)))
         (at_set s.views i j w u e);
     spent = λ j u e joined. ⊎_elim
         (λ (t : (j ≡ i) × (w ≡ u)). absurd (lives (ap (λ (x : View N B). x.role) t.1 ∙ joined)))
@@ -123,7 +137,8 @@ module _ {V N B : Type 0} (notes : V → List N) (by : N → ℕ) (base : V → 
 
 module _ {N B : Type 0} where
   -- the seat that a pass keeps is idle
-  pub sits : {views : List (View N B)} {m : View N B} {number : ℕ} → (v : View N B) × (views ≡ v ∷ []) × (v.role ≡ Idle) × (number ≡ v.number) → views ≡ m ∷ [] → m.role ≡ Idle
+  pub sits : {views : List (View N B)} {m : View N B} {number : ℕ} → (v : View N B) × (views ≡ v ∷ []) × (v.role ≡ Idle)
+      × (number ≡ v.number) → views ≡ m ∷ [] → m.role ≡ Idle
   sits {m} inv e = cc
 
   -- what clauses see of a pass is what they see of its seat

@@ -8,7 +8,16 @@ use Rattle.bfd_turn.specs.Plays.{Adds, AllKept}
 module _ {N B : Type 0} where
   -- caller 0 of a new lock
   abbrev pub opened_pass : B → ℕ → Known N B
-  opened_pass base turns = record { number = 0; base = Some base; seen = []; word = 2 * turns; looks = []; taken = turns; made = []; joined = [] }
+  opened_pass base turns = record {
+    number = 0;
+    base = Some base;
+    seen = [];
+    word = 2 * turns;
+    looks = [];
+    taken = turns;
+    made = [];
+    joined = [];
+  }
 
   -- caller 0, once it has made the pass n
   abbrev pub having_made : ℕ → Known N B → Known N B
@@ -18,9 +27,16 @@ module _ {N B : Type 0} where
   abbrev pub made_by : ℕ → Known N B → Known N B
   made_by n v = record { number = n; base = v.base; seen = v.seen; word = v.word; looks = []; taken = 0; made = []; joined = [] }
 
-  -- caller 0 at the word n of its load, once it has taken in another pass: it has seen the longer list, and keeps the other's number and calls
+  -- caller 0 at the word n of its load, once it has taken in another pass: it has seen the longer list, and keeps the other's number and
+  -- calls
   abbrev pub having_joined : (N → ℕ) → ℕ → Known N B → Known N B → Known N B
-  having_joined by n v w = record v { seen = longer v.seen w.seen; word = n; looks = v.looks ++ n ∷ []; taken = v.taken + w.taken; joined = v.joined ++ (w.number, calls by w.number w.seen) ∷ [] }
+  having_joined by n v w = record v {
+    seen = longer v.seen w.seen;
+    word = n;
+    looks = v.looks ++ n ∷ [];
+    taken = v.taken + w.taken;
+    joined = v.joined ++ (w.number, calls by w.number w.seen) ∷ [];
+  }
 
   -- it has met the word n, and these are the words of its loads
   abbrev pub having_met : ℕ → List ℕ → Known N B → Known N B
@@ -39,7 +55,8 @@ module _ {N B : Type 0} where
   IsNew n v = All (λ m. m < n) v.made
 
 module _ {V N B : Type 0} where
-  -- The pass v holds the turn as w, and the value x is lent. The word read, one below the new word, was even, not the last, and not below what v had met.
+  -- The pass v holds the turn as w, and the value x is lent. The word read, one below the new word, was even, not the last, and not below
+  -- what v had met.
   -- The notes of x begin with what v had seen, and go on with notes of others. Of each joined pass they have the calls that are kept
   pub record IsLent (notes : V → List N) (by : N → ℕ) (base : V → B) (v w : Known N B) (x : V) : Type 0 where
     pub same : w ≡ record v { seen = notes x; word = w.word; looks = w.looks }

@@ -43,9 +43,10 @@ module _ {V N B : Type 0} where
     pub kept : AllKept by v.joined (notes x)
 
   -- the exchange took the turn, or it met another word
-  pub record took (notes : V → List N) (by : N → ℕ) (base : V → B) (st : Step (Option V)) (m : Sat V N B) (n : ℕ) (m' : Sat V N B) : Type 0 where
-    pub won : n ≡ st.first → (x : V) × (m' ≡ (holding (notes x) (n + 1) m.0, (0, Some x) ∷ m.1)) × Lent notes by base m.0 n x
-    pub lost : n ≢ st.first → (m' ≡ (met n m.0, m.1)) × (m.0.word ≤ n) × (n + 1 < 2 ^ 64)
+  pub record took (notes : V → List N) (by : N → ℕ) (base : V → B) (st : Step (Option V)) (m : Sat V N B) (n : ℕ) (m' : Sat V N B) : Type 0
+    where
+      pub won : n ≡ st.first → (x : V) × (m' ≡ (holding (notes x) (n + 1) m.0, (0, Some x) ∷ m.1)) × Lent notes by base m.0 n x
+      pub lost : n ≢ st.first → (m' ≡ (met n m.0, m.1)) × (m.0.word ≤ n) × (n + 1 < 2 ^ 64)
 
   -- the turn was given back, with the value that is in hand
   abbrev pub released : (V → List N) → Step (Option V) → Sat V N B → ℕ → Sat V N B → Type 0

@@ -14,7 +14,8 @@ module _ {N B : Type 0} where
   total_taken (v ∷ vs) = v.taken + total_taken vs
 
   -- what a live view knows is true of the one history, and it alone has its number
-  pub record Fits (by : N → ℕ) (history : List N) (lock_base : B) (now : ℕ) (made : List ℕ) (joined : List (ℕ × List N)) (seat : ℕ → Option ℕ) (i : ℕ) (v : View N B) : Type 0 where
+  pub record Fits (by : N → ℕ) (history : List N) (lock_base : B) (now : ℕ) (made : List ℕ) (joined : List (ℕ × List N))
+      (seat : ℕ → Option ℕ) (i : ℕ) (v : View N B) : Type 0 where
     pub seen : Begins v.seen history
     pub told : Begins v.told history
     pub calls_seen : calls by v.number history ≡ calls by v.number v.seen
@@ -27,7 +28,8 @@ module _ {N B : Type 0} where
 
 module _ {V N B : Type 0} where
   -- the word is even: the value is at home, with the history for its notes, and nobody holds the turn
-  pub record AtHome (notes : V → List N) (base : V → B) (history : List N) (lock_base : B) (now : ℕ) (s : State (Option V) (View N B)) : Type 0 where
+  pub record AtHome (notes : V → List N) (base : V → B) (history : List N) (lock_base : B) (now : ℕ)
+      (s : State (Option V) (View N B)) : Type 0 where
     pub value : V
     pub home : s.homes ≡ some (Some value) ∷ []
     pub notes_are : notes value ≡ history

@@ -8,11 +8,32 @@ use Rattle.bfd_turn.specs.Lists.{longer, shorter, calls}
 module _ {N B : Type 0} where
   -- what the lock's callers see of a view
   abbrev pub known : View N B → Known N B
-  known v = record { number = v.number; base = v.base; seen = v.seen; word = v.word; looks = v.looks; taken = v.taken; made = v.made; joined = v.joined }
+  known v = record {
+    number = v.number;
+    base = v.base;
+    seen = v.seen;
+    word = v.word;
+    looks = v.looks;
+    taken = v.taken;
+    made = v.made;
+    joined = v.joined;
+  }
 
   -- a pass that was joined knows nothing, and has given back nothing
   abbrev pub joined_view : View N B
-  joined_view = record { role = Joined; number = 0; base = None; seen = []; told = []; own = []; word = 0; looks = []; taken = 0; made = []; joined = [] }
+  joined_view = record {
+    role = Joined;
+    number = 0;
+    base = None;
+    seen = [];
+    told = [];
+    own = [];
+    word = 0;
+    looks = [];
+    taken = 0;
+    made = [];
+    joined = [];
+  }
 
   abbrev pub known_of : List (View N B) → Known N B
   known_of [] = known joined_view
@@ -20,7 +41,19 @@ module _ {N B : Type 0} where
 
   -- caller 0 of a new lock
   abbrev pub newcomer : B → ℕ → View N B
-  newcomer base turns = record { role = Idle; number = 0; base = Some base; seen = []; told = []; own = []; word = 2 * turns; looks = []; taken = turns; made = []; joined = [] }
+  newcomer base turns = record {
+    role = Idle;
+    number = 0;
+    base = Some base;
+    seen = [];
+    told = [];
+    own = [];
+    word = 2 * turns;
+    looks = [];
+    taken = turns;
+    made = [];
+    joined = [];
+  }
 
   -- caller 0, once it has made the pass n
   abbrev pub parent : ℕ → View N B → View N B
@@ -28,7 +61,19 @@ module _ {N B : Type 0} where
 
   -- the pass n that caller 0 has made
   abbrev pub offspring : ℕ → View N B → View N B
-  offspring n v = record { role = Idle; number = n; base = v.base; seen = v.seen; told = []; own = []; word = v.word; looks = []; taken = 0; made = []; joined = [] }
+  offspring n v = record {
+    role = Idle;
+    number = n;
+    base = v.base;
+    seen = v.seen;
+    told = [];
+    own = [];
+    word = v.word;
+    looks = [];
+    taken = 0;
+    made = [];
+    joined = [];
+  }
 
   -- caller 0, once it has taken in another pass
   abbrev pub glued : (N → ℕ) → View N B → View N B → View N B

@@ -7,7 +7,7 @@ use std::alloc::Global;
 use std::marker::PhantomData;
 use std::snapshot::Snapshot;
 
-/// What the table is told when it is made. It has no bytes but the number of turns.
+/// What the table receives when it is made. It has no bytes but the number of turns.
 #[derive(Drop)]
 pub(crate) struct Opening<V> {
     pub(crate) value: Snapshot<V>,

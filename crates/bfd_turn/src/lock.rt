@@ -66,8 +66,8 @@ impl<V: Recorded> TurnLock<V> {
         }
     }
 
-    /// A pass with a new number, made by caller 0. It has seen what caller 0 has seen, where no note names the number. A pass takes no
-    /// memory.
+    /// A pass with a new number, made by caller 0. It has seen what caller 0 has seen, where no note names the number. A pass allocates
+    /// no memory.
     pub fn split(&self, first: &mut Pass<V::Note, V::Base>, number: u32) -> Pass<V::Note, V::Base>
         requires first { (first.old.0 ≡ self.now) × (first.old.1.number ≡ 0) }
         requires number { (0 < number) × IsNew number first.old.1 }
@@ -98,8 +98,8 @@ impl<V: Recorded> TurnLock<V> {
         Pass::of(other, number)
     }
 
-    /// Caller 0 takes in another pass. It has then seen the longer of the two lists, of which the other is a beginning, and keeps the
-    /// number and its calls. Its own calls stay the same, and no later note names the number.
+    /// Caller 0 joins another pass to its own. It has then seen the longer of the two lists, of which the other is a beginning, and keeps
+    /// the number and its calls. Its own calls stay the same, and no later note names the number.
     pub fn join(&self, first: &mut Pass<V::Note, V::Base>, other: Pass<V::Note, V::Base>)
         requires first { (first.old.0 ≡ self.now) × (first.old.1.number ≡ 0) }
         requires other { (other.0 ≡ self.now) × (other.1.number ≢ 0) }
@@ -118,7 +118,7 @@ impl<V: Recorded> TurnLock<V> {
 
     /// One try at a turn, by one load and at most one exchange. It doesn't wait.
     ///
-    /// Busy comes exactly where the word read is odd or the exchange finds another word, and Spent exactly where the word read is 2^64 - 2.
+    /// Busy comes if and only if the word read is odd or the exchange finds another word, and Spent iff the word read is 2^64 - 2.
     /// Either way the pass comes back with the word read as that of its one load more and the last word met, and all else as it was.
     pub fn try_turn(
         &self,
@@ -171,7 +171,7 @@ impl<V: Recorded> TurnLock<V> {
         }
     }
 
-    /// A turn, tried again until its exchange wins. It may wait. Spent comes exactly where the word read is 2^64 - 2.
+    /// A turn, tried again until its exchange wins. It may wait. Spent comes if and only if the word read is 2^64 - 2.
     pub fn turn<R: Wait>(
         &self,
         rt: &R,

@@ -1,4 +1,4 @@
-//! What each step on the table tells.
+//! What each step on the table shows.
 ghost use Rattle.std.specs.Prelude.{ℕ};
 ghost use Rattle.bfd_turn.specs.Views.{parent, offspring, glued, joined_view};
 ghost use Rattle.bfd_turn.specs.Plays.{looked, checked, took, released};
@@ -64,7 +64,7 @@ impl<N, B, J: Numbered> Split<View<N, B>> for Cut<J> {
     ghost right = { offspring J.number };
 }
 
-/// Caller 0 takes a pass in.
+/// Caller 0 joins a pass into its own.
 pub(crate) struct Glue<V> {
     of: PhantomData<V>,
 }

@@ -26,7 +26,7 @@ pub struct View<N, B> {
     pub joined: LinkedList<(u32, LinkedList<N>)>,
 }
 
-/// What clauses see of a pass, beside the lock that it is of. No value of it is made, so its numbers have no bound.
+/// What clauses see of a pass, in addition to the lock that it is of. No value of it is made, so its numbers have no bound.
 pub struct Known<N, B> {
     /// The caller's number: 0 for the one that the lock began with.
     pub number: u32,

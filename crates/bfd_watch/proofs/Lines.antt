@@ -19,7 +19,8 @@ member_twice : (cs ds : List Change) (m : Member) → member_after (cs ++ ds) m 
 member_twice [] ds m = refl
 member_twice (c ∷ cs) ds m = member_twice cs ds (heard m c)
 
-members_twice : (cs ds : List Change) (ms : List Member) → map (member_after (cs ++ ds)) ms ≡ map (member_after ds) (map (member_after cs) ms)
+members_twice : (cs ds : List Change) (ms : List Member)
+    → map (member_after (cs ++ ds)) ms ≡ map (member_after ds) (map (member_after cs) ms)
 members_twice cs ds [] = refl
 members_twice cs ds (m ∷ ms) = cc (member_twice cs ds m, members_twice cs ds ms)
 
@@ -28,7 +29,8 @@ group_twice cs ds g = cc (members_twice cs ds g.members)
 
 -- one event more
 
-first : (n : ℕ) (o : Outcome) (g : Group) → watched_lines_from n (o ∷ []) g ≡ watched_lines (n + 0) (changes_in (n + 0) o.items) (group_after [] g)
+first : (n : ℕ) (o : Outcome) (g : Group) → watched_lines_from n (o ∷ []) g
+    ≡ watched_lines (n + 0) (changes_in (n + 0) o.items) (group_after [] g)
 unfolding watched_lines_from
 first n o g =
     let same : n ≡ n + 0 = omega arith in
@@ -45,7 +47,8 @@ more_from n (x ∷ os) o g =
       more_from (n + 1) os o (group_after here g),
       group_twice here (changes_from (n + 1) os) g,
       append_assoc (watched_lines n here g) (watched_lines_from (n + 1) os (group_after here g))
-          (watched_lines (n + length (x ∷ os)) (changes_in (n + length (x ∷ os)) o.items) (group_after (here ++ changes_from (n + 1) os) g)),
+          (watched_lines (n + length (x ∷ os)) (changes_in (n + length (x ∷ os)) o.items)
+          (group_after (here ++ changes_from (n + 1) os) g)),
     )
 
 pub lines_more : (os : List Outcome) (o : Outcome) (g : Group) → watched_lines_from 1 (os ++ o ∷ []) g

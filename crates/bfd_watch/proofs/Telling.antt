@@ -30,7 +30,8 @@ unfolding outcomes_after
 outcomes_long configs past [] = refl
 outcomes_long configs past (x ∷ es) = omega (arith, outcomes_long configs (past ++ x ∷ []) es)
 
-pub from_more : (n : ℕ) (os : List Outcome) (o : Outcome) → changes_from n (os ++ o ∷ []) ≡ changes_from n os ++ changes_in (n + length os) o.items
+pub from_more : (n : ℕ) (os : List Outcome) (o : Outcome)
+    → changes_from n (os ++ o ∷ []) ≡ changes_from n os ++ changes_in (n + length os) o.items
 unfolding changes_from
 from_more n [] o = let same : n ≡ n + 0 = omega arith in cc (append-nil (changes_in n o.items))
 from_more n (x ∷ os) o =
@@ -38,18 +39,27 @@ from_more n (x ∷ os) o =
     cc (from_more (n + 1) os o, append_assoc (changes_in n x.items) (changes_from (n + 1) os) (changes_in (n + length (x ∷ os)) o.items))
 
 pub changes_more : (configs : List SessionConfig) (es : List ShardEvent) (e : ShardEvent)
-    → history_changes configs (es ++ e ∷ []) ≡ history_changes configs es ++ changes_in (length es + 1) (outcome_of (last_tick es) e (runs es configs)).items
+    → history_changes configs (es ++ e ∷ []) ≡ history_changes configs es
+    ++ changes_in (length es + 1) (outcome_of (last_tick es) e (runs es configs)).items
 changes_more configs es e =
     let number : 1 + length (outcomes_after configs [] es) ≡ length es + 1 = omega (arith, outcomes_long configs [] es) in
     cc (outcomes_more configs [] es e, from_more 1 (outcomes_after configs [] es) (outcome_of (last_tick es) e (runs es configs)))
 
 -- what a watch has told of all the entries that it took, with one more
-pub whole_more : {configs configs2 : List SessionConfig} (js js2 : List Entry) (entry : Entry) {told more : List Change} → configs2 ≡ configs
-    → js2 ≡ js ++ entry ∷ [] → more ≡ told ++ changes_in (length js + 1) (outcome_of (last_tick (events_of js)) entry.event (runs (events_of js) configs)).items
-    → (before : List Change) → told ≡ before ++ history_changes configs (events_of js) → more ≡ before ++ history_changes configs2 (events_of js2)
+pub whole_more : {configs configs2 : List SessionConfig} (js js2 : List Entry) (entry : Entry) {told more : List Change}
+    → configs2 ≡ configs
+    → js2 ≡ js ++ entry ∷ [] → more ≡ told ++ changes_in (length js + 1)
+    (outcome_of (last_tick (events_of js)) entry.event (runs (events_of js) configs)).items
+    → (before : List Change) → told ≡ before ++ history_changes configs (events_of js)
+    → more ≡ before ++ history_changes configs2 (events_of js2)
 whole_more {configs} js js2 entry same grown added before so_far =
     let long = length-map js (λ x. x.event) in
-    cc (append_assoc before (history_changes configs (events_of js)) (changes_in (length js + 1) (outcome_of (last_tick (events_of js)) entry.event (runs (events_of js) configs)).items), changes_more configs (events_of js) entry.event, map-append (λ x. x.event) js (entry ∷ []))
+    cc (
+      append_assoc before (history_changes configs (events_of js))
+          (changes_in (length js + 1) (outcome_of (last_tick (events_of js)) entry.event (runs (events_of js) configs)).items),
+      changes_more configs (events_of js) entry.event,
+      map-append (λ x. x.event) js (entry ∷ []),
+    )
 
 -- a watch at the start
 

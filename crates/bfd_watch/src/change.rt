@@ -1,4 +1,4 @@
-//! What a client is told, and why it may not be.
+//! What a client receives, and why it may not.
 
 use bfd_packet::State;
 use std::alloc::AllocError;
@@ -16,12 +16,12 @@ pub struct Change {
     pub diag: u8,
 }
 
-/// Why an entry wasn't taken. The watch is then as before.
+/// Why an entry wasn't accepted. The watch is then as before.
 #[derive(Clone, Copy, Debug, PartialEq, Eq)]
 pub enum WatchFault {
-    /// So many entries were taken, which is the limit.
+    /// So many entries were accepted, which is the limit.
     Full(usize),
-    /// No memory is left.
+    /// Out of memory.
     Memory,
 }
 

@@ -8,6 +8,7 @@ ghost use Rattle.bfd_shard.specs.Shard.{CanHappen, room_for};
 ghost use Rattle.bfd_watch.specs.declared.change.Change.{Change};
 ghost use Rattle.bfd_watch.specs.Changes.{change_in, history_changes, changes_in};
 ghost use Rattle.bfd_watch.specs.Watching.{TellsOfWatch, told_by, watching};
+ghost use Rattle.bfd_num.specs.Counting.{IsBlankOf};
 
 use crate::change::{Change, WatchFault};
 use bfd_num::Steps;
@@ -19,7 +20,7 @@ use std::alloc::{AllocError, Global};
 use std::marker::{Brand, Model};
 use std::sync::ledger::{Blank, Ledger};
 
-/// A cursor over the history of a shard: a shard of its own, which takes the history's entries.
+/// A cursor over the history of a shard: a shard of its own, which accepts the history's entries.
 #[derive(Drop)]
 pub struct Watch<W: Timers> {
     shard: ShardState<W>,
@@ -49,7 +50,7 @@ fn most_outputs(sessions: &[Session], event: &ShardEvent) -> usize
     }
 }
 
-/// Appends the change that the output of the event of this number tells, where it tells one.
+/// Appends the change that the output of the event of this number reports, where it reports one.
 fn append_change(number: u64, item: &Out, out: &mut Vec<Change>)
     requires room { vec_len out.old < vec_capacity out.old }
     ensures items { out.new.items ≡ out.old.items ++ cons_option (change_in number item.now) [] }
@@ -73,7 +74,7 @@ fn append_change(number: u64, item: &Out, out: &mut Vec<Change>)
     }
 }
 
-/// Appends the changes that the outputs of the event of this number tell. Takes no memory.
+/// Appends the changes that the outputs of the event of this number report. Allocates no memory.
 fn append_changes(number: u64, items: &[Out], out: &mut Vec<Change>)
     requires room { vec_len out.old + length items.now ≤ vec_capacity out.old }
     ensures { out.new.items ≡ out.old.items ++ changes_in number items.now }
@@ -83,7 +84,7 @@ fn append_changes(number: u64, items: &[Out], out: &mut Vec<Change>)
     }
 }
 
-/// The changes that the outputs of the event of this number tell, in their order. Fails only when out of memory.
+/// The changes that the outputs of the event of this number report, in their order. Fails only when out of memory.
 pub fn changes_of(alloc: Global, number: u64, items: &[Out]) -> Result<Vec<Change>, AllocError>
     ensures { IfOk result (λ changes. changes.items ≡ changes_in number items.now) }
 {
@@ -92,7 +93,7 @@ pub fn changes_of(alloc: Global, number: u64, items: &[Out]) -> Result<Vec<Chang
     Ok(changes)
 }
 
-/// The entry as an event of the shard, which is below its limit, with a counter of steps of its own. What it puts out is in
+/// The entry as an event of the shard, which is below its limit, with a counter of steps of its own. What it emits is in
 /// `outs`.
 fn follow<W: Timers, L: Ledger>(
     shard: &mut ShardState<W>,
@@ -104,9 +105,7 @@ fn follow<W: Timers, L: Ledger>(
     requires below { length shard.old.journal < shard.old.limit }
     requires can { CanHappen (configs_of shard.old.sessions) entry.event }
     requires room { room_for shard.old.sessions entry.event ≤ outs.old.room }
-    requires name { blank.name ≡ L.name }
-    requires parts { blank.parts ≡ L.parts }
-    requires some { 0 < blank.parts }
+    requires blank { IsBlankOf L.name L.parts blank.name blank.parts }
     ensures taken { IsOk result }
     ensures journal { shard.new.journal ≡ shard.old.journal ++ entry ∷ [] }
     ensures limit { shard.new.limit ≡ shard.old.limit }
@@ -123,7 +122,7 @@ fn follow<W: Timers, L: Ledger>(
 
 impl<W: Timers> Watch<W> {
     /// A watch of a shard of the sessions with these configurations, at most 65,536 and each within its ranges; they are the ones with
-    /// which the shard was made. No entry was taken, and `limit` entries may be. It fails only when out of memory.
+    /// which the shard was made. No entry was accepted, and `limit` entries may be. It fails only when out of memory.
     pub fn make(
         alloc: Global,
         configs: Vec<SessionConfig>,
@@ -138,14 +137,14 @@ impl<W: Timers> Watch<W> {
         Ok(Watch { shard, outs, limit })
     }
 
-    /// How many entries were taken: the client's cursor over the history.
+    /// How many entries were accepted: the client's cursor over the history.
     pub fn taken(&self) -> usize
         ensures { result ≡ length self.now.entries }
     {
         self.shard.journal().len()
     }
 
-    /// Whether the entry may be taken: a tick always may, and an own event where a session stands at its place that takes it.
+    /// Whether the entry may be accepted: a tick always may, and an own event where a session stands at its place that accepts it.
     /// Every entry of a shard's history may be, where the watch was made with the shard's configurations.
     pub fn takes(&self, entry: &Entry) -> bool
         ensures { IsTrue result ↔ CanHappen self.now.configs entry.now.event }
@@ -160,10 +159,10 @@ impl<W: Timers> Watch<W> {
         self.shard.sessions()
     }
 
-    /// The next entry of the history, which the shard's sessions may be given. The changes that it tells are appended to `out`, in order,
-    /// each with the number of the entry, from 1. So where `out` had the changes of the entries that were taken before, behind whatever, it
-    /// has now those of all. `Full` comes exactly where as many entries as the limit were taken, and `Memory` when out of memory below it;
-    /// after each of them the watch and what `out` holds are as before.
+    /// The next entry of the history, which the shard's sessions may be given. The changes that it reports are appended to `out`, in order,
+    /// each with the number of the entry, from 1. So where `out` had the changes of the entries that were accepted before, behind whatever,
+    /// it has now those of all. `Full` comes if and only if as many entries as the limit were accepted, and `Memory` when out of memory
+    /// below it; after each of them the watch and what `out` holds are as before.
     pub fn take(&mut self, entry: Entry, out: &mut Vec<Change>) -> Result<(), WatchFault>
         requires can { CanHappen self.old.configs entry.event }
         ensures taken { OnOk result (self.new ≡ record self.old { entries = self.old.entries ++ entry ∷ [] }) }

@@ -6,3 +6,4 @@ pub mod Order
 pub mod Walk
 pub mod Swept
 pub mod Views
+pub mod Linking

@@ -1,5 +1,8 @@
 -- Two ascending lists with the same numbers as often are equal.
-use Rattle.bfd_wheel.proofs.Common.{◌≡◌, ◌≢◌, inl, inr, ℕ, zero, suc, ◌+◌, ◌-◌, ◌<◌, ◌≤◌, Bool, true, false, cond, List, [], ◌∷◌, ◌++◌, map, length, get_or, take, drop, subst, refl, sym, ◌∙◌, ap, arith, nat_le, IsPermutation, take-append-drop, take_all, length-drop, cases_eq, cases_lt, never, due_of, places, come, bit, times, counts_due, Took, come_of}
+use Rattle.bfd_wheel.proofs.Common.{◌≡◌, ◌≢◌, inl, inr, ℕ, zero, suc, ◌+◌, ◌-◌, ◌<◌, ◌≤◌, Bool, true, false, cond, List, [], ◌∷◌, ◌++◌, map}
+use Rattle.bfd_wheel.proofs.Common.{length, get_or, take, drop, subst, refl, sym, ◌∙◌, ap, arith, nat_le, IsPermutation, take-append-drop}
+use Rattle.bfd_wheel.proofs.Common.{take_all, length-drop, cases_eq, cases_lt, never, due_of, places, come, bit, times, counts_due, Took}
+use Rattle.bfd_wheel.proofs.Common.{come_of}
 use Rattle.std.specs.List.Sorted.{IsNonDecreasing}
 use Rattle.std.specs.List.{sum_by}
 use Rattle.std.proofs.lemmas.List.Sorted.{sum_by-IsPermutation}
@@ -20,7 +23,8 @@ times_by : (x k : ℕ) (ps : List ℕ) (b : Bool) → times x (cond b (k ∷ ps)
 times_by x k ps true = refl
 times_by x k ps false = omega arith
 
-times_step : {t : ℕ} (k d x : ℕ) (ps : List ℕ) → t < never → times x (cond (has_come t (due_of d)) (k ∷ ps) ps) ≡ cond (nat_le d t) (bit x k) 0 + times x ps
+times_step : {t : ℕ} (k d x : ℕ) (ps : List ℕ) → t < never
+    → times x (cond (has_come t (due_of d)) (k ∷ ps) ps) ≡ cond (nat_le d t) (bit x k) 0 + times x ps
 times_step {t} k d x ps below = cc (come_of t d below, times_by x k ps (nat_le d t))
 
 no_bit : (b : Bool) (x k : ℕ) → x ≢ k → cond b (bit x k) 0 ≡ 0
@@ -33,20 +37,34 @@ one_bit false x k e = refl
 
 before : {t : ℕ} (k : ℕ) (ds : List ℕ) (x : ℕ) → t < never → x < k → times x (places (has_come t) k (map due_of ds)) ≡ 0
 before k [] x below h = refl
-before {t} k (d ∷ ds) x below h = omega (arith, times_step k d x (places (has_come t) (k + 1) (map due_of ds)) below, no_bit (nat_le d t) x k (omega arith), before (k + 1) ds x below (omega arith))
+before {t} k (d ∷ ds) x below h = omega (
+  arith,
+  times_step k d x (places (has_come t) (k + 1) (map due_of ds)) below,
+  no_bit (nat_le d t) x k (omega arith),
+  before (k + 1) ds x below (omega arith),
+)
 
 from_place : {t : ℕ} (k : ℕ) (ds : List ℕ) (y : ℕ) → t < never → times (k + y) (places (has_come t) k (map due_of ds)) ≡ counts_due t ds y
 from_place {t} k [] y below = sym (counted_not _ t below)
-from_place {t} k (d ∷ ds) zero below = omega (arith, times_step k d (k + zero) (places (has_come t) (k + 1) (map due_of ds)) below, one_bit (nat_le d t) (k + zero) k (omega arith), before (k + 1) ds (k + zero) below (omega arith))
+from_place {t} k (d ∷ ds) zero below = omega (
+  arith,
+  times_step k d (k + zero) (places (has_come t) (k + 1) (map due_of ds)) below,
+  one_bit (nat_le d t) (k + zero) k (omega arith),
+  before (k + 1) ds (k + zero) below (omega arith),
+)
 from_place {t} k (d ∷ ds) (suc y) below =
-    let shift : times (k + suc y) (places (has_come t) (k + 1) (map due_of ds)) ≡ times ((k + 1) + y) (places (has_come t) (k + 1) (map due_of ds)) = ap (λ z. times z (places (has_come t) (k + 1) (map due_of ds))) (omega arith) in
+    let shift : times (k + suc y) (places (has_come t) (k + 1) (map due_of ds)) ≡ times ((k + 1) + y)
+    (places (has_come t) (k + 1) (map due_of ds)) = ap (λ z. times z (places (has_come t) (k + 1) (map due_of ds))) (omega arith) in
     times_step k d (k + suc y) (places (has_come t) (k + 1) (map due_of ds)) below
-    ∙ ap (λ z. z + times (k + suc y) (places (has_come t) (k + 1) (map due_of ds))) (no_bit (nat_le d t) (k + suc y) k (λ e. absurd (omega arith)))
-    ∙ (let skip : 0 + times (k + suc y) (places (has_come t) (k + 1) (map due_of ds)) ≡ times (k + suc y) (places (has_come t) (k + 1) (map due_of ds)) = omega arith in skip)
+    ∙ ap (λ z. z + times (k + suc y) (places (has_come t) (k + 1) (map due_of ds)))
+    (no_bit (nat_le d t) (k + suc y) k (λ e. absurd (omega arith)))
+    ∙ (let skip : 0 + times (k + suc y) (places (has_come t) (k + 1) (map due_of ds))
+    ≡ times (k + suc y) (places (has_come t) (k + 1) (map due_of ds)) = omega arith in skip)
     ∙ shift ∙ from_place (k + 1) ds y below
 
 pub times_come : (t : ℕ) (dues : List ℕ) (x : ℕ) → t < never → times x (come t (map due_of dues)) ≡ counts_due t dues x
-times_come t dues x below = ap (λ z. times z (come t (map due_of dues))) (let plain : x ≡ 0 + x = omega arith in plain) ∙ from_place 0 dues x below
+times_come t dues x below = ap (λ z. times z (come t (map due_of dues))) (let plain : x ≡ 0 + x = omega arith in plain)
+    ∙ from_place 0 dues x below
 
 -- ---- ascending lists
 
@@ -122,12 +140,15 @@ times-permutation : {xs ys : List ℕ} → IsPermutation xs ys → (y : ℕ) →
 times-permutation {xs} {ys} p y = cc (times_sum y ys, sum_by-IsPermutation (bit y) xs ys p, times_sum y xs)
 
 -- an ascending list that has each id as often as it waited is the list of those that have come
-come_is : {t : ℕ} (dues : List ℕ) {taken sorted : List ℕ} → t < never → IsPermutation taken sorted → IsNonDecreasing sorted → ((x : ℕ) → times x taken ≡ counts_due t dues x) → sorted ≡ come t (map due_of dues)
+come_is : {t : ℕ} (dues : List ℕ) {taken sorted : List ℕ} → t < never → IsPermutation taken sorted → IsNonDecreasing sorted
+    → ((x : ℕ) → times x taken ≡ counts_due t dues x) → sorted ≡ come t (map due_of dues)
 come_is {t} dues {sorted} below p order each = unique _ _ (ascends_sorted sorted order) (ascends_from 0 dues below)
     (λ z. cc (times-permutation p z, each z, times_come t dues z below))
 
 -- what was appended is put in order behind what was there
-pub ordered : (t from : ℕ) (dues dues2 items items1 items2 : List ℕ) → t < never → Took t dues dues2 items items1 → ((x : ℕ) → counts_due t dues2 x ≡ 0) → from ≡ length items → take from items2 ≡ take from items1 → IsPermutation (drop from items1) (drop from items2) → IsNonDecreasing (drop from items2) → items2 ≡ items ++ come t (map due_of dues)
+pub ordered : (t from : ℕ) (dues dues2 items items1 items2 : List ℕ) → t < never → Took t dues dues2 items items1
+    → ((x : ℕ) → counts_due t dues2 x ≡ 0) → from ≡ length items → take from items2 ≡ take from items1
+    → IsPermutation (drop from items1) (drop from items2) → IsNonDecreasing (drop from items2) → items2 ≡ items ++ come t (map due_of dues)
 ordered t from dues dues2 items items1 items2 below took none at front rest order =
     let whole = took.appended in
     let head_is : take from items2 ≡ items = cc (ap (λ (k : ℕ). take k items1) at, take-append_seam items took.taken) in
@@ -137,7 +158,8 @@ ordered t from dues dues2 items items1 items2 below took none at front rest orde
     cc (take-append-drop from items2)
 
 -- the part behind what was there is what was appended
-pub appended_from : (from : ℕ) (items more items2 : List ℕ) → items2 ≡ items ++ more → from ≡ length items → take (length items2 - from) (drop from items2) ≡ more
+pub appended_from : (from : ℕ) (items more items2 : List ℕ) → items2 ≡ items ++ more → from ≡ length items
+    → take (length items2 - from) (drop from items2) ≡ more
 appended_from from items more items2 whole at =
     let tail_is : drop from items2 ≡ more = cc (ap (λ (k : ℕ). drop k items2) at, drop-append_seam items more) in
     take_all (length items2 - from) (drop from items2) (omega (arith, length-drop from items2)) ∙ tail_is

@@ -1,5 +1,6 @@
 -- Taking a node out of its ring, putting one in behind a head, and naming the lists anew.
-use Rattle.bfd_wheel.proofs.Common.{◌≡◌, ◌≢◌, inl, inr, ℕ, ◌<◌, ◌≤◌, sym, ◌∙◌, ap, subst, arith, cases_eq, cases_lt, never, IsOn, IsRing, Unlinks, Links}
+use Rattle.bfd_wheel.proofs.Common.{◌≡◌, ◌≢◌, inl, inr, ℕ, ◌<◌, ◌≤◌, sym, ◌∙◌, ap, subst, arith, cases_eq, cases_lt, never, IsOn, IsRing}
+use Rattle.bfd_wheel.proofs.Common.{Unlinks, Links}
 
 -- the id i leaves its list
 pub record TakesOut (i : ℕ) (due home next prev due2 home2 next2 prev2 : ℕ → ℕ) : Type 0 where
@@ -8,7 +9,8 @@ pub record TakesOut (i : ℕ) (due home next prev due2 home2 next2 prev2 : ℕ �
   pub home_same : (j : ℕ) → j ≢ i → home2 j ≡ home j
   pub links : Unlinks i next prev next2 prev2
 
-module _ (n all i : ℕ) (due home next prev rank due2 home2 next2 prev2 : ℕ → ℕ) (r : IsRing n all due home next prev rank) (id : i < n) (o : IsOn all due i) (u : TakesOut i due home next prev due2 home2 next2 prev2) where
+module _ (n all i : ℕ) (due home next prev rank due2 home2 next2 prev2 : ℕ → ℕ) (r : IsRing n all due home next prev rank) (id : i < n)
+    (o : IsOn all due i) (u : TakesOut i due home next prev due2 home2 next2 prev2) where
   out_next : next i ≢ i
   out_next = λ e. absurd (let g : rank (next i) ≡ rank i = cc in omega (arith, r.falls i id o))
 
@@ -46,25 +48,43 @@ module _ (n all i : ℕ) (due home next prev rank due2 home2 next2 prev2 : ℕ �
   out_next_home : (j : ℕ) → IsOn all due2 j → home2 (next2 j) ≡ home2 j
   out_next_home j on = elim (cases_eq j (prev i)) [
     | inl e ↦ cc (u.home_same (next i) out_next, r.next_home i o, r.prev_home i o, u.home_same (prev i) out_prev)
-    | inr ne ↦ cc (u.links.next_same j ne, u.home_same (next j) (out_next_is on ne), r.next_home j (out_was on), u.home_same j (out_other on))
+    | inr ne ↦ cc (
+      u.links.next_same j ne,
+      u.home_same (next j) (out_next_is on ne),
+      r.next_home j (out_was on),
+      u.home_same j (out_other on),
+    )
   ]
 
   out_prev_home : (j : ℕ) → IsOn all due2 j → home2 (prev2 j) ≡ home2 j
   out_prev_home j on = elim (cases_eq j (next i)) [
     | inl e ↦ cc (u.home_same (prev i) out_prev, r.prev_home i o, r.next_home i o, u.home_same (next i) out_next)
-    | inr ne ↦ cc (u.links.prev_same j ne, u.home_same (prev j) (out_prev_is on ne), r.prev_home j (out_was on), u.home_same j (out_other on))
+    | inr ne ↦ cc (
+      u.links.prev_same j ne,
+      u.home_same (prev j) (out_prev_is on ne),
+      r.prev_home j (out_was on),
+      u.home_same j (out_other on),
+    )
   ]
 
   out_back : (j : ℕ) → IsOn all due2 j → prev2 (next2 j) ≡ j
   out_back j on = elim (cases_eq j (prev i)) [
     | inl e ↦ cc
-    | inr ne ↦ cc (u.links.next_same j ne, u.links.prev_same (next j) (λ e. out_other on (cc (r.back j (out_was on), r.back i o))), r.back j (out_was on))
+    | inr ne ↦ cc (
+      u.links.next_same j ne,
+      u.links.prev_same (next j) (λ e. out_other on (cc (r.back j (out_was on), r.back i o))),
+      r.back j (out_was on),
+    )
   ]
 
   out_forth : (j : ℕ) → IsOn all due2 j → next2 (prev2 j) ≡ j
   out_forth j on = elim (cases_eq j (next i)) [
     | inl e ↦ cc
-    | inr ne ↦ cc (u.links.prev_same j ne, u.links.next_same (prev j) (λ e. out_other on (cc (r.forth j (out_was on), r.forth i o))), r.forth j (out_was on))
+    | inr ne ↦ cc (
+      u.links.prev_same j ne,
+      u.links.next_same (prev j) (λ e. out_other on (cc (r.forth j (out_was on), r.forth i o))),
+      r.forth j (out_was on),
+    )
   ]
 
   out_falls : (j : ℕ) → j < n → IsOn all due2 j → rank (next2 j) < rank j
@@ -116,7 +136,9 @@ pub record PutsIn (i h top : ℕ) (due home next prev rank due2 home2 next2 prev
   pub rank_same : (j : ℕ) → j ≢ i → rank2 j ≡ rank j
   pub links : Links i h next prev next2 prev2
 
-module _ (n all i h top : ℕ) (due home next prev rank due2 home2 next2 prev2 rank2 : ℕ → ℕ) (r : IsRing n all due home next prev rank) (below : (j : ℕ) → rank j < top) (inside : n ≤ all) (id : i < n) (off : due i ≡ never) (head : n ≤ h) (o : IsOn all due h) (u : PutsIn i h top due home next prev rank due2 home2 next2 prev2 rank2) where
+module _ (n all i h top : ℕ) (due home next prev rank due2 home2 next2 prev2 rank2 : ℕ → ℕ) (r : IsRing n all due home next prev rank)
+    (below : (j : ℕ) → rank j < top) (inside : n ≤ all) (id : i < n) (off : due i ≡ never) (head : n ≤ h) (o : IsOn all due h)
+    (u : PutsIn i h top due home next prev rank due2 home2 next2 prev2 rank2) where
   in_other : {j : ℕ} → IsOn all due j → j ≢ i
   in_other on = λ e. on.there (cc)
 
@@ -158,7 +180,12 @@ module _ (n all i h top : ℕ) (due home next prev rank due2 home2 next2 prev2 r
     | inl e ↦ cc (in_home_first)
     | inr ne ↦ elim (cases_eq j h) [
       | inl e ↦ cc (in_home_head)
-      | inr nh ↦ cc (u.links.next_same j ne nh, u.home_same (next j) (in_other (r.next_on j (in_was ne on))), r.next_home j (in_was ne on), u.home_same j ne)
+      | inr nh ↦ cc (
+        u.links.next_same j ne nh,
+        u.home_same (next j) (in_other (r.next_on j (in_was ne on))),
+        r.next_home j (in_was ne on),
+        u.home_same j ne,
+      )
     ]
   ]
 
@@ -167,7 +194,12 @@ module _ (n all i h top : ℕ) (due home next prev rank due2 home2 next2 prev2 r
     | inl e ↦ cc (in_home_head)
     | inr ne ↦ elim (cases_eq j (next h)) [
       | inl e ↦ cc (in_home_first)
-      | inr nh ↦ cc (u.links.prev_same j ne nh, u.home_same (prev j) (in_other (r.prev_on j (in_was ne on))), r.prev_home j (in_was ne on), u.home_same j ne)
+      | inr nh ↦ cc (
+        u.links.prev_same j ne nh,
+        u.home_same (prev j) (in_other (r.prev_on j (in_was ne on))),
+        r.prev_home j (in_was ne on),
+        u.home_same j ne,
+      )
     ]
   ]
 
@@ -177,7 +209,11 @@ module _ (n all i h top : ℕ) (due home next prev rank due2 home2 next2 prev2 r
     | inr ne ↦ elim (cases_eq j h) [
       | inl e ↦ cc
       | inr nh ↦ (let on1 = in_was ne on in
-          cc (u.links.next_same j ne nh, u.links.prev_same (next j) (in_other (r.next_on j on1)) (λ q. nh (cc (r.back j on1, r.back h o))), r.back j on1))
+          cc (
+            u.links.next_same j ne nh,
+            u.links.prev_same (next j) (in_other (r.next_on j on1)) (λ q. nh (cc (r.back j on1, r.back h o))),
+            r.back j on1,
+          ))
     ]
   ]
 
@@ -187,7 +223,11 @@ module _ (n all i h top : ℕ) (due home next prev rank due2 home2 next2 prev2 r
     | inr ne ↦ elim (cases_eq j (next h)) [
       | inl e ↦ cc
       | inr nh ↦ (let on1 = in_was ne on in
-          cc (u.links.prev_same j ne nh, u.links.next_same (prev j) (in_other (r.prev_on j on1)) (λ q. nh (cc (r.forth j on1))), r.forth j on1))
+          cc (
+            u.links.prev_same j ne nh,
+            u.links.next_same (prev j) (in_other (r.prev_on j on1)) (λ q. nh (cc (r.forth j on1))),
+            r.forth j on1,
+          ))
     ]
   ]
 
@@ -208,7 +248,8 @@ module _ (n all i h top : ℕ) (due home next prev rank due2 home2 next2 prev2 r
     | inr ne ↦ (let on1 = in_was ne on in
         let not_head : j ≢ h = λ e. absurd (omega arith) in
         let own = u.rank_same j ne in
-        let next_is : rank2 (next2 j) ≡ rank (next j) = cc (u.links.next_same j ne not_head, u.rank_same (next j) (in_other (r.next_on j on1))) in
+        let next_is : rank2 (next2 j) ≡ rank (next j) =
+        cc (u.links.next_same j ne not_head, u.rank_same (next j) (in_other (r.next_on j on1))) in
         omega (arith, r.falls j near on1))
   ]
 
@@ -228,7 +269,8 @@ module _ (n all i h top : ℕ) (due home next prev rank due2 home2 next2 prev2 r
   in_gap_own : {j : ℕ} → j ≢ i → IsOn all due2 j → home2 j ≡ h → rank j ≤ rank (next h)
   in_gap_own {j} ne on same = r.no_gap h j o (in_was ne on) (cc (u.home_same j ne, r.head_home h head)) (λ q. absurd (omega arith))
 
-  in_far : {c j : ℕ} → c ≢ i → c ≢ h → IsOn all due2 c → IsOn all due2 j → home2 j ≡ home2 c → (c < n → rank2 j < rank2 c) → rank2 j ≤ rank2 (next2 c)
+  in_far : {c j : ℕ} → c ≢ i → c ≢ h → IsOn all due2 c → IsOn all due2 j → home2 j ≡ home2 c → (c < n → rank2 j < rank2 c)
+      → rank2 j ≤ rank2 (next2 c)
   in_far {c} {j} ne nh onc on same under =
       let on1 = in_was ne onc in
       let own_c = u.rank_same c ne in
@@ -282,7 +324,8 @@ module _ (n all i h top : ℕ) (due home next prev rank due2 home2 next2 prev2 r
   }
 
 -- where no list of a node on a list changes, the ring stays
-pub ring_moved : (n all : ℕ) (due home next prev rank home2 : ℕ → ℕ) → IsRing n all due home next prev rank → ((j : ℕ) → IsOn all due j → home2 j ≡ home j) → ((j : ℕ) → n ≤ j → home2 j ≡ j) → IsRing n all due home2 next prev rank
+pub ring_moved : (n all : ℕ) (due home next prev rank home2 : ℕ → ℕ) → IsRing n all due home next prev rank
+    → ((j : ℕ) → IsOn all due j → home2 j ≡ home j) → ((j : ℕ) → n ≤ j → home2 j ≡ j) → IsRing n all due home2 next prev rank
 ring_moved n all due home next prev rank home2 r same heads = record {
   next_on = r.next_on;
   prev_on = r.prev_on;

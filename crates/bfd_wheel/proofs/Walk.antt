@@ -1,5 +1,7 @@
 -- A walk along one list, which takes off what has come.
-use Rattle.bfd_wheel.proofs.Common.{◌≡◌, ◌≢◌, ◌⊎◌, inl, inr, ℕ, zero, suc, ◌+◌, ◌<◌, ◌≤◌, cond, List, length, refl, sym, ◌∙◌, arith, nat_le, slice_index, slice_set, get_or-set_same, get_or-set_other, length-set, nat_tests, cases_eq, cases_lt, never, Node, IsOn, Unlinks, due_in, next_in, prev_in, place, home, IsWheel}
+use Rattle.bfd_wheel.proofs.Common.{◌≡◌, ◌≢◌, ◌⊎◌, inl, inr, ℕ, zero, suc, ◌+◌, ◌<◌, ◌≤◌, cond, List, length, refl, sym, ◌∙◌, arith, nat_le}
+use Rattle.bfd_wheel.proofs.Common.{slice_index, slice_set, get_or-set_same, get_or-set_other, length-set, nat_tests, cases_eq, cases_lt}
+use Rattle.bfd_wheel.proofs.Common.{never, Node, IsOn, Unlinks, due_in, next_in, prev_in, place, home, IsWheel}
 use Rattle.bfd_wheel.proofs.Rings.{ring_without}
 use Rattle.bfd_wheel.proofs.Wheels.{home_id, home_head, home_same, head_on, id_on, out_of}
 
@@ -65,10 +67,12 @@ pub record IsWalk (n now head t : ℕ) (dues : List ℕ) (nodes : List Node) (cu
   pub wheel : IsWheel n now dues nodes
   pub on : IsOn (n + 4097) (due_in dues) cur
   pub same : home n now (due_in dues) cur ≡ head
-  pub ahead : (j : ℕ) → j < n → IsOn (n + 4097) (due_in dues) j → home n now (due_in dues) j ≡ head → (wheel.links.rank j ≤ wheel.links.rank cur) ⊎ (t < slice_index dues j)
+  pub ahead : (j : ℕ) → j < n → IsOn (n + 4097) (due_in dues) j → home n now (due_in dues) j ≡ head
+      → (wheel.links.rank j ≤ wheel.links.rank cur) ⊎ (t < slice_index dues j)
   pub left : i + upto wheel.links.rank (wheel.links.rank cur) n ≤ n
 
-pub walk_begins : {n now head : ℕ} (t : ℕ) {dues : List ℕ} {nodes : List Node} → IsWheel n now dues nodes → n ≤ head → head < n + 4097 → IsWalk n now head t dues nodes (next_in nodes head) 0
+pub walk_begins : {n now head : ℕ} (t : ℕ) {dues : List ℕ} {nodes : List Node} → IsWheel n now dues nodes → n ≤ head → head < n + 4097
+    → IsWalk n now head t dues nodes (next_in nodes head) 0
 walk_begins {n} {now} {head} t {dues} {nodes} w far near =
     let on = head_on n 4097 dues head w.count far near in
     let r = w.links.ring in
@@ -82,13 +86,15 @@ walk_begins {n} {now} {head} t {dues} {nodes} w far near =
     }
 
 -- who isn't the head is an id
-pub walk_id : {n now head t : ℕ} {dues : List ℕ} {nodes : List Node} {cur i : ℕ} → IsWalk n now head t dues nodes cur i → cur ≢ head → cur < n
+pub walk_id : {n now head t : ℕ} {dues : List ℕ} {nodes : List Node} {cur i : ℕ} → IsWalk n now head t dues nodes cur i → cur ≢ head
+    → cur < n
 walk_id {n} {now} {dues} {cur} w other = elim (cases_lt cur n) [
   | inl near ↦ near
   | inr far ↦ absurd (other (cc (home_head now (due_in dues) cur far)))
 ]
 
-walk_past : {n now head t : ℕ} {dues : List ℕ} {nodes : List Node} {cur i : ℕ} → IsWalk n now head t dues nodes cur i → cur < n → t < slice_index dues cur → IsWalk n now head t dues nodes (next_in nodes cur) (i + 1)
+walk_past : {n now head t : ℕ} {dues : List ℕ} {nodes : List Node} {cur i : ℕ} → IsWalk n now head t dues nodes cur i → cur < n
+    → t < slice_index dues cur → IsWalk n now head t dues nodes (next_in nodes cur) (i + 1)
 walk_past {n} {nodes} {cur} w near above =
     let r = w.wheel.links.ring in
     let rank = w.wheel.links.rank in
@@ -99,21 +105,26 @@ walk_past {n} {nodes} {cur} w near above =
       ahead = λ j close on at. elim (cases_eq j cur) [
         | inl e ↦ inr (rw e above)
         | inr ne ↦ elim (w.ahead j close on at) [
-          | inl le ↦ inl (r.no_gap cur j w.on on (at ∙ sym w.same) (λ _. (let apart : rank j ≢ rank cur = λ q. ne (r.one j cur q close) in omega arith)))
+          | inl le ↦ inl (r.no_gap cur j w.on on (at ∙ sym w.same)
+              (λ _. (let apart : rank j ≢ rank cur = λ q. ne (r.one j cur q close) in omega arith)))
           | inr more ↦ inr more
         ]
       ];
       left = omega (arith, upto_falls rank _ _ cur n near refl (r.falls cur near w.on), w.left);
     }
 
-walk_takes : {n now head t : ℕ} {dues : List ℕ} {nodes nodes2 : List Node} {cur i : ℕ} → IsWalk n now head t dues nodes cur i → cur < n → length nodes2 ≡ length nodes → Unlinks cur (next_in nodes) (prev_in nodes) (next_in nodes2) (prev_in nodes2) → IsWalk n now head t (slice_set dues cur never) nodes2 (next_in nodes cur) (i + 1)
+walk_takes : {n now head t : ℕ} {dues : List ℕ} {nodes nodes2 : List Node} {cur i : ℕ} → IsWalk n now head t dues nodes cur i → cur < n
+    → length nodes2 ≡ length nodes → Unlinks cur (next_in nodes) (prev_in nodes) (next_in nodes2) (prev_in nodes2)
+    → IsWalk n now head t (slice_set dues cur never) nodes2 (next_in nodes cur) (i + 1)
 walk_takes {n} {now} {head} {dues} {nodes} {nodes2} {cur} w near size u =
     let r = w.wheel.links.ring in
     let rank = w.wheel.links.rank in
     let dues2 = slice_set dues cur never in
     let due_is : (j : ℕ) → j ≢ cur → slice_index dues2 j ≡ slice_index dues j = λ j ne. get_or-set_other dues cur j never 0 ne in
-    let other : (j : ℕ) → IsOn (n + 4097) (due_in dues2) j → j ≢ cur = λ j on e. on.there (cc (get_or-set_same dues cur never 0 (let c = w.wheel.count in omega arith))) in
-    let was : (j : ℕ) → IsOn (n + 4097) (due_in dues2) j → IsOn (n + 4097) (due_in dues) j = λ j on. record { below = on.below; there = λ e. on.there (due_is j (other j on) ∙ e) } in
+    let other : (j : ℕ) → IsOn (n + 4097) (due_in dues2) j
+    → j ≢ cur = λ j on e. on.there (cc (get_or-set_same dues cur never 0 (let c = w.wheel.count in omega arith))) in
+    let was : (j : ℕ) → IsOn (n + 4097) (due_in dues2) j
+    → IsOn (n + 4097) (due_in dues) j = λ j on. record { below = on.below; there = λ e. on.there (due_is j (other j on) ∙ e) } in
     let next_other : next_in nodes cur ≢ cur = λ e. absurd (let same_rank : rank (next_in nodes cur) ≡ rank cur = cc in omega arith) in
     let next_on = r.next_on cur w.on in
     record {
@@ -126,7 +137,9 @@ walk_takes {n} {now} {head} {dues} {nodes} {nodes2} {cur} w near size u =
           rank = w.wheel.links.rank;
           top = w.wheel.links.top;
           below = w.wheel.links.below;
-          ring = ring_without n (n + 4097) cur (due_in dues) (home n now (due_in dues)) (next_in nodes) (prev_in nodes) w.wheel.links.rank (due_in dues2) (home n now (due_in dues2)) (next_in nodes2) (prev_in nodes2) r near w.on (out_of now dues nodes nodes2 w.wheel.count near u);
+          ring = ring_without n (n + 4097) cur (due_in dues) (home n now (due_in dues)) (next_in nodes) (prev_in nodes) w.wheel.links.rank
+              (due_in dues2) (home n now (due_in dues2)) (next_in nodes2) (prev_in nodes2) r near w.on
+              (out_of now dues nodes nodes2 w.wheel.count near u);
         };
       };
       on = record { below = next_on.below; there = λ e. next_on.there (cc (due_is (next_in nodes cur) next_other)) };
@@ -135,27 +148,36 @@ walk_takes {n} {now} {head} {dues} {nodes} {nodes2} {cur} w near size u =
           let on1 = was j on in
           let at1 : home n now (due_in dues) j ≡ head = sym (home_same n now (due_in dues) (due_in dues2) (due_is j ne)) ∙ at in
           elim (w.ahead j close on1 at1) [
-            | inl le ↦ inl (r.no_gap cur j w.on on1 (cc) (λ _. (let apart : rank j ≢ rank cur = λ q. ne (r.one j cur q close) in omega arith)))
+            | inl le ↦ inl (r.no_gap cur j w.on on1 (cc)
+                (λ _. (let apart : rank j ≢ rank cur = λ q. ne (r.one j cur q close) in omega arith)))
             | inr more ↦ inr (let e = due_is j ne in omega arith)
           ]);
       left = (let f = upto_falls rank _ _ cur n near refl (r.falls cur near w.on) in let l = w.left in omega arith);
     }
 
 -- a step, by what the visit of cur did
-pub walk_on : {n now head t : ℕ} {dues dues2 : List ℕ} {nodes nodes2 : List Node} {cur i : ℕ} → IsWalk n now head t dues nodes cur i → cur < n → length nodes2 ≡ length nodes → (t < slice_index dues cur → dues2 ≡ dues) → (t < slice_index dues cur → nodes2 ≡ nodes) → (slice_index dues cur ≤ t → dues2 ≡ slice_set dues cur never) → (slice_index dues cur ≤ t → Unlinks cur (next_in nodes) (prev_in nodes) (next_in nodes2) (prev_in nodes2)) → IsWalk n now head t dues2 nodes2 (next_in nodes cur) (i + 1)
+pub walk_on : {n now head t : ℕ} {dues dues2 : List ℕ} {nodes nodes2 : List Node} {cur i : ℕ} → IsWalk n now head t dues nodes cur i
+    → cur < n → length nodes2 ≡ length nodes → (t < slice_index dues cur → dues2 ≡ dues) → (t < slice_index dues cur → nodes2 ≡ nodes)
+    → (slice_index dues cur ≤ t → dues2 ≡ slice_set dues cur never) → (slice_index dues cur ≤ t → Unlinks cur (next_in nodes)
+    (prev_in nodes) (next_in nodes2) (prev_in nodes2)) → IsWalk n now head t dues2 nodes2 (next_in nodes cur) (i + 1)
 walk_on {t} {dues} {cur} w near size dues_kept nodes_kept gone links = elim (cases_lt t (slice_index dues cur)) [
   | inl above ↦ rw (dues_kept above) (rw (nodes_kept above) (walk_past w near above))
   | inr le ↦ rw (gone le) (walk_takes w near size (links le))
 ]
 
 -- a walk that is back at the head, or has made n steps, has passed all of its list
-pub walk_ends : (n now head t : ℕ) (dues : List ℕ) (nodes : List Node) (cur i : ℕ) → IsWalk n now head t dues nodes cur i → n ≤ head → (cur ≡ head) ⊎ (n ≤ i) → (j : ℕ) → j < n → slice_index dues j ≢ never → place n now (slice_index dues j) ≡ head → t < slice_index dues j
+pub walk_ends : (n now head t : ℕ) (dues : List ℕ) (nodes : List Node) (cur i : ℕ) → IsWalk n now head t dues nodes cur i → n ≤ head → (cur
+    ≡ head) ⊎ (n ≤ i) → (j : ℕ) → j < n → slice_index dues j ≢ never → place n now (slice_index dues j) ≡ head → t < slice_index dues j
 walk_ends n now head t dues nodes cur i w far done j close there at =
     let r = w.wheel.links.ring in
     let rank = w.wheel.links.rank in
     let at_head : n ≤ cur = elim done [
       | inl e ↦ omega arith
-      | inr steps ↦ elim (cases_lt cur n) [ inl near ↦ absurd (let one = upto_one rank (rank cur) cur n near (omega arith) in let l = w.left in omega arith) | inr h ↦ h ]
+      | inr steps ↦ elim (cases_lt cur n) [
+        | inl near ↦ absurd
+            (let one = upto_one rank (rank cur) cur n near (omega arith) in let l = w.left in omega arith)
+        | inr h ↦ h
+      ]
     ] in
     elim (w.ahead j close (id_on n 4097 dues j close there) (home_id now (due_in dues) close ∙ at)) [
       | inl le ↦ absurd (omega arith)

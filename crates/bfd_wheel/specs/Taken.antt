@@ -1,5 +1,6 @@
 -- What an advance has taken so far, and what still waits.
-use Rattle.std.specs.Prelude.{◌≡◌, ◌⊎◌, ℕ, ◌+◌, ◌≤◌, List, [], ◌∷◌, ◌++◌, length, slice_index, slice_index_or, if◌then◌else◌, nat_eq, nat_le}
+use Rattle.std.specs.Prelude.{◌≡◌, ◌⊎◌, ℕ, ◌+◌, ◌≤◌, List, [], ◌∷◌, ◌++◌, length, slice_index, slice_index_or, if◌then◌else◌, nat_eq}
+use Rattle.std.specs.Prelude.{nat_le}
 use Rattle.bfd_lanes.specs.Places.{never}
 
 -- 1 where the two are the same, and else 0

@@ -1,5 +1,7 @@
 -- The hashed wheel: on which list a node stands, and what its lists keep.
-use Rattle.std.specs.Prelude.{◌≡◌, ◌≢◌, ℕ, ◌+◌, ◌%◌, ◌^◌, ◌<◌, ◌≤◌, List, length, slice_index, slice_index_or, if◌then◌else◌, nat_le, nat_lt}
+use Rattle.std.specs.Prelude.{◌≡◌, ◌≢◌, ℕ, zero, suc, ◌+◌, ◌%◌, ◌^◌, ◌<◌, ◌≤◌, List, [], ◌∷◌, length, slice_index, slice_index_or}
+use Rattle.std.specs.Prelude.{if◌then◌else◌, nat_le}
+use Rattle.std.specs.Prelude.{nat_lt}
 use Rattle.bfd_lanes.specs.Places.{never}
 use Rattle.bfd_wheel.specs.declared.links.Node.{Node}
 use Rattle.bfd_wheel.specs.Rings.{IsRanked}
@@ -22,6 +24,12 @@ place n now due = if nat_le due now then n + 4096 else n + due % 4096
 -- the head of the list of the node j: the place of its due tick, and for a head itself
 unfoldable pub home : ℕ → ℕ → (ℕ → ℕ) → ℕ → ℕ
 home n now due j = if nat_lt j n then place n now (due j) else j
+
+-- the due ticks of the first k ids, and none for the others
+unfoldable pub first_dues : List ℕ → ℕ → List ℕ
+first_dues [] k = []
+first_dues (d ∷ ds) zero = never ∷ first_dues ds zero
+first_dues (d ∷ ds) (suc k) = d ∷ first_dues ds k
 
 -- every id with a due tick stands on the one list that its due tick and now name, and an id with none on no list
 pub record IsWheel (n now : ℕ) (dues : List ℕ) (nodes : List Node) : Type 0 where

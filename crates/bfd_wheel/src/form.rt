@@ -1,5 +1,6 @@
 //! What every form of timers promises.
-ghost use Rattle.std.specs.Prelude.{◌≡◌, ℕ, ◌+◌, ◌^◌, ◌<◌, ◌≤◌, List, ◌++◌, map, length, replicate, Option, None, Some, slice_index_or, slice_set, IfOk};
+ghost use Rattle.std.specs.Prelude.{◌≡◌, ℕ, ◌+◌, ◌^◌, ◌<◌, ◌≤◌, List, ◌++◌, map, length, replicate, Option, None, Some, slice_index_or, slice_set, IfOk, IfSome, OnErr, OnOk};
+ghost use Rattle.std.specs.List.{insert, remove};
 ghost use Rattle.bfd_lanes.specs.Held.{room_of};
 ghost use Rattle.bfd_lanes.specs.Places.{come, least, without};
 
@@ -8,7 +9,7 @@ use bfd_num::Steps;
 use std::alloc::{AllocError, Global};
 use std::sync::ledger::Ledger;
 
-/// Timers of ids 0, 1, 2 .., seen as the list of their optional due ticks. Only `make` takes memory.
+/// Timers of ids 0, 1, 2 .., seen as the list of their optional due ticks. Only `make` and `insert` allocate memory.
 pub trait Timers: Drop + Sized {
     ghost dues: { Self → List (Option ℕ) };
 
@@ -17,10 +18,19 @@ pub trait Timers: Drop + Sized {
         requires { count ≤ 65536 }
         ensures { IfOk result (λ timers. dues timers ≡ replicate count None) };
 
-    /// Timers for the first `count` ids, no more than there are, with no due tick. Takes no memory.
-    fn restart(&mut self, count: u32)
-        requires { count ≤ length (dues self.old) }
-        ensures { dues self.new ≡ replicate count None };
+    /// One id more, with this due tick, if any, below 2^60: `id` and those above it move up by one. There are at most
+    /// 65,536 ids then. Fails only when out of memory, and then no due tick has changed.
+    fn insert(&mut self, alloc: Global, id: u32, due: Option<u64>) -> Result<(), AllocError>
+        requires id { id ≤ length (dues self.old) }
+        requires few { length (dues self.old) < 65536 }
+        requires due { IfSome due (λ t. t < 2 ^ 60) }
+        ensures dues { OnOk result (dues self.new ≡ insert (dues self.old) id due) }
+        ensures same { OnErr result (dues self.new ≡ dues self.old) };
+
+    /// The id leaves, and those above it move down by one. Allocates no memory.
+    fn remove(&mut self, id: u32)
+        requires { id < length (dues self.old) }
+        ensures dues { dues self.new ≡ remove (dues self.old) id };
 
     /// Sets the id's due tick, below 2^60, in place of the one that it had: at most 2 steps.
     fn set<L: Ledger>(&mut self, id: u32, due: u64, steps: &mut Steps<L>)

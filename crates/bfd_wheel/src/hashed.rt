@@ -1,8 +1,9 @@
 //! Timers as a hashed wheel.
+use crate::anew::{insert_id, remove_id};
 use crate::change::{change, free};
 use crate::form::Timers;
-use crate::links::{Node, loops, loops_again};
-use crate::list::{due_at, no_dues, no_dues_again};
+use crate::links::{Node, loops};
+use crate::list::{due_at, no_dues};
 use crate::place::HEADS;
 use crate::take::take;
 use bfd_lanes::{Ids, least_due};
@@ -45,10 +46,12 @@ impl Timers for HashedWheel {
         })
     }
 
-    fn restart(&mut self, count: u32) {
-        no_dues_again(&mut self.dues, count);
-        loops_again(&mut self.nodes, count + HEADS);
-        self.now = 0;
+    fn insert(&mut self, _alloc: Global, id: u32, due: Option<u64>) -> Result<(), AllocError> {
+        insert_id(&mut self.nodes, &mut self.dues, self.now, id, due)
+    }
+
+    fn remove(&mut self, id: u32) {
+        remove_id(&mut self.nodes, &mut self.dues, self.now, id);
     }
 
     fn set<L: Ledger>(&mut self, id: u32, due: u64, steps: &mut Steps<L>) {

@@ -2,10 +2,11 @@
 //!
 //! `PlainTimers` keeps the due ticks in one list. `HashedWheel` keeps them in 4,096 slots as well, so that an advance
 //! by a tick looks at two short lists. It stands on bfd_lanes and bfd_num. Both forms promise the same: they are the
-//! list of their optional due ticks, an advance takes exactly those at most its tick, and no call but `make` takes
-//! memory.
+//! list of their optional due ticks, an advance takes exactly those at most its tick, and no calls but `make` and
+//! `insert` allocate memory.
 #![tactic(auto)]
 
+mod anew;
 mod change;
 mod form;
 mod hashed;
@@ -19,5 +20,5 @@ pub use change::detach;
 pub use form::Timers;
 pub use hashed::HashedWheel;
 pub use links::{Node, link, loops, loops_again, unlink};
-pub use list::{due_at, no_dues, no_dues_again};
+pub use list::{due_at, insert_due, no_dues, remove_due};
 pub use plain::PlainTimers;

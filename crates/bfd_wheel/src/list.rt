@@ -1,5 +1,6 @@
 //! The due ticks as one list of numbers.
-ghost use Rattle.std.specs.Prelude.{◌≡◌, ◌≢◌, ◌<◌, ◌≤◌, map, length, replicate, IfOk, None, slice_index_or, slice_set};
+ghost use Rattle.std.specs.Prelude.{◌≡◌, ◌≢◌, ◌+◌, ◌^◌, ◌<◌, ◌≤◌, map, length, replicate, IfOk, IfSome, OnErr, OnOk, None, slice_index_or, slice_set};
+ghost use Rattle.std.specs.List.{insert, remove};
 ghost use Rattle.bfd_lanes.specs.Places.{never, due_of, without};
 
 use bfd_lanes::NEVER;
@@ -12,13 +13,40 @@ pub fn no_dues(alloc: Global, count: u32) -> Result<Vec<u64>, AllocError>
     vec![in alloc; NEVER; count as usize]
 }
 
-/// `NEVER` for each of the first `count` ids.
-pub fn no_dues_again(dues: &mut Vec<u64>, count: u32)
-    requires { count ≤ length dues.old.items }
-    ensures { dues.new.items ≡ replicate count never }
+/// The number that stands for a due tick, below 2^60, or for none.
+fn number_of(due: Option<u64>) -> u64
+    requires { IfSome due (λ t. t < 2 ^ 60) }
+    ensures { due_of result ≡ due }
 {
-    dues.truncate(count as usize);
-    dues.fill(NEVER);
+    match due {
+        Some(due) => due,
+        None => NEVER,
+    }
+}
+
+/// Puts a due tick in at `id`, below 2^60, or none. Fails only when out of memory, and then nothing has changed.
+#[tactic(auto, using(crate::proofs::Views::inserted_view))]
+pub fn insert_due(dues: &mut Vec<u64>, id: u32, due: Option<u64>) -> Result<(), AllocError>
+    requires id { id ≤ length dues.old.items }
+    requires due { IfSome due (λ t. t < 2 ^ 60) }
+    ensures view { OnOk result (map due_of dues.new.items ≡ insert (map due_of dues.old.items) id due) }
+    ensures long { OnOk result (length dues.new.items ≡ length dues.old.items + 1) }
+    ensures same { OnErr result (dues.new.items ≡ dues.old.items) }
+{
+    match dues.insert(id as usize, number_of(due)) {
+        Ok(()) => Ok(()),
+        Err(_) => Err(AllocError),
+    }
+}
+
+/// Takes the due tick at `id` out.
+#[tactic(auto, using(crate::proofs::Views::removed_view))]
+pub fn remove_due(dues: &mut Vec<u64>, id: u32)
+    requires { id < length dues.old.items }
+    ensures view { map due_of dues.new.items ≡ remove (map due_of dues.old.items) id }
+    ensures long { length dues.new.items + 1 ≡ length dues.old.items }
+{
+    dues.remove(id as usize);
 }
 
 /// The due tick at `id`.

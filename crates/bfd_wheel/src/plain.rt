@@ -1,8 +1,9 @@
 //! Timers as a plain list.
-ghost use Rattle.std.specs.Prelude.{◌≡◌, ◌+◌, ◌^◌, ◌<◌, ◌≤◌, length, None, Some, slice_set};
+ghost use Rattle.std.specs.Prelude.{◌≡◌, ◌+◌, ◌^◌, ◌<◌, ◌≤◌, length, map, None, Some, slice_set};
+ghost use Rattle.bfd_lanes.specs.Places.{due_of};
 
 use crate::form::Timers;
-use crate::list::{due_at, forget, no_dues, no_dues_again, write};
+use crate::list::{due_at, forget, insert_due, no_dues, remove_due, write};
 use bfd_lanes::{Ids, NEVER, due_ids, least_due};
 use bfd_num::Steps;
 use std::alloc::{AllocError, Global};
@@ -34,8 +35,12 @@ impl Timers for PlainTimers {
         Ok(PlainTimers { dues })
     }
 
-    fn restart(&mut self, count: u32) {
-        no_dues_again(&mut self.dues, count);
+    fn insert(&mut self, _alloc: Global, id: u32, due: Option<u64>) -> Result<(), AllocError> {
+        insert_due(&mut self.dues, id, due)
+    }
+
+    fn remove(&mut self, id: u32) {
+        remove_due(&mut self.dues, id);
     }
 
     fn set<L: Ledger>(&mut self, id: u32, due: u64, steps: &mut Steps<L>)
@@ -68,5 +73,15 @@ impl Timers for PlainTimers {
     fn advance(&mut self, t: u64, out: &mut Ids) {
         due_ids(&self.dues, t, out);
         forget(&mut self.dues, t);
+    }
+}
+
+impl PlainTimers {
+    /// The due ticks as numbers, at most 65,536, with `NEVER` for none.
+    pub fn dues(&self) -> &[u64]
+        ensures value { map due_of result.now ≡ self.now }
+        ensures few { length result.now ≤ 65536 }
+    {
+        self.dues.as_slice()
     }
 }

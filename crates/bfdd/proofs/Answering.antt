@@ -11,7 +11,8 @@ use Rattle.bfdd.specs.declared.words.job.Job.{Job}
 use Rattle.bfdd.specs.declared.words.job.Job.TheVariants.{Replay, Serve, Load, Pair, Watch}
 use Rattle.bfdd.specs.Answers.{IsAnswer}
 use Rattle.bfdd.specs.declared.job.status.Status.TheVariants.{BadLine, NoMember}
-use Rattle.bfdd.specs.Text.{Wanted, answer_to, bare, complaint_line, ends, load_line, over, done_with, unserved, watch_wanted, watched_unless}
+use Rattle.bfdd.specs.Text.{Wanted, answer_to, bare, complaint_line, ends, load_line, over, done_with, unserved, watch_wanted}
+use Rattle.bfdd.specs.Text.{watched_unless}
 use Rattle.bfdd.specs.Words.{reads, watches}
 
 of_known : (P : Wanted → Type 0) {v w : Wanted} → P v → Some v ≡ Some w → P w
@@ -39,11 +40,14 @@ pub each_answer : (job : Job) (P : Wanted → Type 0) → ((text : List ℕ) →
 each_answer (Replay hands) P done complained strange bytes w is = of_known P
     (over_is P (λ script. done_with (replayed script)) (λ script. done (replayed script)) (complained refl) (script_of false bytes)) is
 each_answer (Watch need members shards) P done complained strange bytes w is = of_known P
-    (over_is P (watch_wanted need members) (λ script. unless_is P done (strange refl) (first_unknown members script.configs) (watched_of need members script))
+    (over_is P (watch_wanted need members) (λ script. unless_is P done (strange refl) (first_unknown members script.configs)
+    (watched_of need members script))
     (complained refl) (script_of false bytes)) is
-each_answer (Load sessions ticks seed hands) P done complained strange bytes w is = of_known P (done (load_line sessions (totals (script sessions ticks seed)))) is
+each_answer (Load sessions ticks seed hands) P done complained strange bytes w is =
+    of_known P (done (load_line sessions (totals (script sessions ticks seed)))) is
 each_answer (Pair events seed) P done complained strange bytes w is = of_known P (done (pair_line seed (schedule seed events))) is
-each_answer (Serve hands turns ticks journal) P done complained strange bytes w is = unserved_is P (complained refl) (script_of true bytes) is
+each_answer (Serve hands turns ticks journal) P done complained strange bytes w is =
+    unserved_is P (complained refl) (script_of true bytes) is
 
 -- it is a text that goes with its status
 pub is_answer : (job : Job) (bytes : List ℕ) (w : Wanted) → answer_to job bytes ≡ Some w → IsAnswer w

@@ -1,12 +1,16 @@
 -- How a job may end.
-use Rattle.bfdd.proofs.Common.{◌≡◌, ◌≢◌, ◌⊎◌, ℕ, true, false, List, Option, Some, inl, inr, refl, sym, subst, Job, Status, Done, Usage, BadLine, ReadFault, WriteFault, TooLarge, Memory, NoMember, Comes, Edges, IsFaulty, IsOverlong, status_of, IsDecided, IsEndOf, WhereUnopened, Wanted, reads, serves, Lists, Replay, Serve, Load, Pair, Watch, Tells, TellsBytes}
+use Rattle.bfdd.proofs.Common.{◌≡◌, ◌≢◌, ◌⊎◌, ℕ, true, false, List, Option, Some, inl, inr, refl, sym, subst, Job, Status, Done, Usage}
+use Rattle.bfdd.proofs.Common.{BadLine, ReadFault, WriteFault, TooLarge, Memory, NoMember, Comes, Edges, IsFaulty, IsOverlong, status_of}
+use Rattle.bfdd.proofs.Common.{IsDecided, IsEndOf, WhereUnopened, Wanted, reads, serves, Lists, Replay, Serve, Load, Pair, Watch, Tells}
+use Rattle.bfdd.proofs.Common.{TellsBytes}
 use Rattle.bfd_serve.specs.declared.run.finish.Finish.{Finish}
 use Rattle.bfd_serve.specs.declared.run.finish.Finish.TheVariants as finish
 use Rattle.bfdd.proofs.Answering.{each_answer}
 
 -- what the bytes alone decide
 bytes_so : {job : Job} {left right : Option (List ℕ)} {w : Wanted} → TellsBytes job left right w → IsEndOf (Some job) w.status
-bytes_so {job} {w} (inl known) = each_answer job (λ v. IsEndOf (Some job) v.status) (λ text. tt) (λ reading bad. reading) (λ watching discr. watching)
+bytes_so {job} {w} (inl known) = each_answer job (λ v. IsEndOf (Some job) v.status) (λ text. tt) (λ reading bad. reading)
+    (λ watching discr. watching)
     known.bytes w known.spelled
 bytes_so (inr (reading, long)) = rw long.nothing reading
 
@@ -14,7 +18,8 @@ finish_so : (job : Job) → serves job ≡ true → (end : Finish) → IsEndOf (
 finish_so job serving finish.Done = tt
 finish_so job serving end = serving
 
-comes_so : (job : Job) (script : Lists) (old new : Edges) (w : Wanted) → serves job ≡ true → Comes job script old new w → IsEndOf (Some job) w.status
+comes_so : (job : Job) (script : Lists) (old new : Edges) (w : Wanted) → serves job ≡ true → Comes job script old new w
+    → IsEndOf (Some job) w.status
 comes_so job script old new w serving (inl served) = rw served.status (finish_so job serving served.end)
 comes_so job script old new w serving (inr portless) = rw portless.nothing serving
 
@@ -24,7 +29,8 @@ unread_so job reading (inl faulty) = rw faulty.complained reading
 unread_so job reading (inr long) = rw long.nothing reading
 
 -- what a job has to tell is told under a status of its own
-pub ends_so : (job : Job) (left right : Option (List ℕ)) (old new : Edges) (w : Wanted) → Tells job left right old new w → IsEndOf (Some job) w.status
+pub ends_so : (job : Job) (left right : Option (List ℕ)) (old new : Edges) (w : Wanted) → Tells job left right old new w
+    → IsEndOf (Some job) w.status
 ends_so (Replay hands) left right old new w tells = bytes_so tells
 ends_so (Watch need members shards) left right old new w tells = bytes_so tells
 ends_so (Load sessions ticks seed hands) left right old new w tells = bytes_so tells
@@ -34,7 +40,8 @@ ends_so (Serve hands turns ticks journal) left right old new w (inl served) =
 ends_so (Serve hands turns ticks journal) left right old new w (inr none) = unread_so (Serve hands turns ticks journal) refl none.unread
 
 -- and so does a run where that is decided
-pub ended : (given : Option Job) (result want : Status) → IsDecided result want → (result ≡ ReadFault → ⊥) → IsEndOf given want → IsEndOf given result
+pub ended : (given : Option Job) (result want : Status) → IsDecided result want → (result ≡ ReadFault → ⊥) → IsEndOf given want
+    → IsEndOf given result
 ended given Done want is reads fact = tt
 ended given Usage want is reads fact = tt
 ended given ReadFault want is reads fact = absurd (reads refl)
@@ -47,7 +54,8 @@ finish_opened : (end : Finish) (P : Type 0) → WhereUnopened (status_of end) P
 finish_opened finish.Done P = tt
 finish_opened end P = tt
 
-comes_opened : {job : Job} {script : Lists} {old new : Edges} {w : Wanted} (P : Type 0) → Comes job script old new w → WhereUnopened w.status P
+comes_opened : {job : Job} {script : Lists} {old new : Edges} {w : Wanted} (P : Type 0) → Comes job script old new w
+    → WhereUnopened w.status P
 comes_opened P (inl served) = rw served.status (finish_opened served.end P)
 comes_opened P (inr portless) = rw portless.nothing tt
 
@@ -69,7 +77,8 @@ tells_unopened (Load sessions ticks seed hands) left right {old} {new} w idle te
 tells_unopened (Pair events seed) left right {old} {new} w idle tells = all_unopened w.status (new ≡ old) (idle refl)
 
 -- the outside is as it was, where the status comes before any port is opened
-pub unopened : (job : Job) (left right : Option (List ℕ)) {old new : Edges} (w : Wanted) (result : Status) → IsDecided result w.status → result ≢ ReadFault
+pub unopened : (job : Job) (left right : Option (List ℕ)) {old new : Edges} (w : Wanted) (result : Status) → IsDecided result w.status
+    → result ≢ ReadFault
     → (serves job ≡ false → new ≡ old) → Tells job left right old new w → WhereUnopened result (new ≡ old)
 unopened job left right w ReadFault is reads idle tells = absurd (reads refl)
 unopened job left right w WriteFault is reads idle tells = tt

@@ -1,5 +1,6 @@
 -- The words that a job begins with.
-use Rattle.std.proofs.Common.{◌≡◌, ℕ, ◌+◌, ◌-◌, ◌<◌, ◌≤◌, ◌++◌, List, [], ◌∷◌, length, map, take, drop, get_or, Option, None, Some, refl, sym, ap, ◌∙◌, arith, append_assoc, drop-cons, length-append, suc}
+use Rattle.std.proofs.Common.{◌≡◌, ℕ, ◌+◌, ◌-◌, ◌<◌, ◌≤◌, ◌++◌, List, [], ◌∷◌, length, map, take, drop, get_or, Option, None, Some, refl}
+use Rattle.std.proofs.Common.{sym, ap, ◌∙◌, arith, append_assoc, drop-cons, length-append, suc}
 use Rattle.std.proofs.lemmas.Grind.{common_steps}
 use Rattle.std.proofs.lemmas.List.{drop-map, take_rest}
 use Rattle.std.proofs.lemmas.List.Sums.{take_while-cons}
@@ -31,13 +32,19 @@ module _ {S : Type 0} (f : S → List ℕ) where
   pub leading-more : (words : List S) {i : ℕ} {word : S} {member : ℕ} (found : List ℕ) → i < length words → word ≡ get_or words i word
       → Some member ≡ member_of (f word) → leading (map f words) ≡ found ++ leading (map f (drop i words))
       → leading (map f words) ≡ (found ++ member ∷ []) ++ leading (map f (drop (i + 1) words))
-  leading-more words {i} {member} found below is reads all = cc (left-is words below is, lead-some member_of (map f (drop (i + 1) words)) (sym reads), append_assoc found (member ∷ []) (leading (map f (drop (i + 1) words))))
+  leading-more words {i} {member} found below is reads all =
+      cc (
+        left-is words below is,
+        lead-some member_of (map f (drop (i + 1) words)) (sym reads),
+        append_assoc found (member ∷ []) (leading (map f (drop (i + 1) words))),
+      )
 
   -- more members than a watch has
   pub leading-many : (words : List S) {i : ℕ} {word : S} {member : ℕ} (found : List ℕ) → i < length words → word ≡ get_or words i word
       → Some member ≡ member_of (f word) → leading (map f words) ≡ found ++ leading (map f (drop i words)) → 64 ≤ length found
       → 64 < length (leading (map f words))
-  leading-many words found below is reads all full = rw (leading-more words found below is reads all) (grind (arith, length-append, common_steps))
+  leading-many words found below is reads all full =
+      rw (leading-more words found below is reads all) (grind (arith, length-append, common_steps))
 
   pub load_of-short : (words : List S) → length words < 3 → None ≡ load_of (map f words)
   load_of-short [] short = refl
@@ -50,7 +57,8 @@ module _ {S : Type 0} (f : S → List ℕ) where
   after words n = take (length words - n) (drop n words)
 
   watch_of-cons : (words : List S) {need : S} {members : List ℕ} → 1 ≤ length words → need ≡ get_or words 0 need
-      → members ≡ leading (map f (drop 1 words)) → watch_by (f need) members (map f (drop (length members) (drop 1 words))) ≡ watch_of (map f words)
+      → members ≡ leading (map f (drop 1 words)) → watch_by (f need) members (map f (drop (length members) (drop 1 words)))
+      ≡ watch_of (map f words)
   watch_of-cons [] some first found = absurd (omega arith)
   watch_of-cons (word ∷ words) {members} some first found = cc (drop-map f (length members) words)
 

@@ -22,7 +22,8 @@ goes_with finish.Done text = tt
 goes_with end text = tt
 
 -- the bytes that a source told are those that were read to its end
-pub read_whole : (bytes : List ℕ) (right : Option (List ℕ)) (more : List ℕ) → Consumes (Some bytes) right more → IsAtEnd right → bytes ≡ more
+pub read_whole : (bytes : List ℕ) (right : Option (List ℕ)) (more : List ℕ) → Consumes (Some bytes) right more → IsAtEnd right
+    → bytes ≡ more
 read_whole bytes None more read end = absurd read
 read_whole bytes (Some rest) more read end = cc (append-nil more)
 
@@ -33,10 +34,12 @@ unwanted_by false (Ok other) answer short is = tt
 unwanted_by false (Err bad) answer short is = cc
 unwanted_by true read answer short is = cc
 
-pub unwanted : (job : Job) (left : Option (List ℕ)) {right : Option (List ℕ)} {script : Lists} (answer : Wanted) → serves job ≡ true → IsLive left right script
+pub unwanted : (job : Job) (left : Option (List ℕ)) {right : Option (List ℕ)} {script : Lists} (answer : Wanted) → serves job ≡ true
+    → IsLive left right script
     → IfSome (wanted_of job left) (λ w. answer ≡ w)
 unwanted (Serve hands turns ticks journal) None answer serving live = tt
 unwanted (Serve hands turns ticks journal) (Some bytes) {right} {script} answer serving live =
     let same = read_whole bytes right live.bytes live.read live.end in
-    unwanted_by _ _ answer (le-ltb most_bytes (length bytes) (rw same live.few)) (subst (λ l. script_of true l ≡ Ok script) (sym same) live.spelled)
+    unwanted_by _ _ answer (le-ltb most_bytes (length bytes) (rw same live.few))
+    (subst (λ l. script_of true l ≡ Ok script) (sym same) live.spelled)
 unwanted job left answer serving live = cc

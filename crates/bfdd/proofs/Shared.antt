@@ -1,5 +1,9 @@
 -- What shards tell, each in the order of its own sessions, is as one list what the whole table tells.
-use Rattle.bfdd.proofs.WatchedTextCommon.{◌≡◌, ◌≢◌, ◌⊎◌, inl, inr, ◌<◌, ◌≤◌, ◌+◌, ◌-◌, ◌==◌, ◌++◌, ℕ, zero, suc, Bool, true, false, List, [], ◌∷◌, refl, sym, ap, append_assoc, arith, nat_lt, if◌then◌else◌, AllByRecursion, flat_map, filter_map-append, lt-ltb, le-ltb, eq-eqb, ne_eqb, cases_lt, dite, ℕ_discrete, Out, Changed, Sent, named, discr_of, configs_of, Running, Ascends, share, Change, changes_in, lower, not_lower, merged, merged_of}
+use Rattle.bfdd.proofs.WatchedTextCommon.{◌≡◌, ◌≢◌, ◌⊎◌, inl, inr, ◌<◌, ◌≤◌, ◌+◌, ◌-◌, ◌==◌, ◌++◌, ℕ, zero, suc, Bool, true, false, List}
+use Rattle.bfdd.proofs.WatchedTextCommon.{[], ◌∷◌, refl, sym, ap, append_assoc, arith, nat_lt, if◌then◌else◌, AllByRecursion, flat_map}
+use Rattle.bfdd.proofs.WatchedTextCommon.{filter_map-append, lt-ltb, le-ltb, eq-eqb, ne_eqb, cases_lt, dite, ℕ_discrete, Out, Changed, Sent}
+use Rattle.bfdd.proofs.WatchedTextCommon.{named, discr_of, configs_of, Running, Ascends, share, Change, changes_in, lower, not_lower}
+use Rattle.bfdd.proofs.WatchedTextCommon.{merged, merged_of}
 
 -- changes of one session, and of sessions behind it
 
@@ -38,7 +42,11 @@ first_own d (x ∷ xs) cs ds h above = cc (lower_none x.discr ds h.0 above, kept
 first_other : (d : ℕ) (cs ys ds : List Change) → AreAbove d cs → AreOf d ys → merged cs (ys ++ ds) ≡ ys ++ merged cs ds
 first_other d [] ys ds above h = refl
 first_other d (c ∷ cs) ys ds above h =
-    cc (lower_more c.discr ys ds above.0 h, passed_more c.discr ys ds above.0 h, append_assoc ys (lower c.discr ds) (c ∷ merged cs (not_lower c.discr ds)))
+    cc (
+      lower_more c.discr ys ds above.0 h,
+      passed_more c.discr ys ds above.0 h,
+      append_assoc ys (lower c.discr ds) (c ∷ merged cs (not_lower c.discr ds)),
+    )
 
 -- whose turn it is behind this shard
 abbrev next : ℕ → ℕ → ℕ
@@ -70,8 +78,10 @@ place_after n q r h is = dite (ℕ_discrete (q + 1) n) (λ e. inl (omega (arith,
     (λ e. inr (omega (arith, next_on n q e, is, h)))
 
 place_on : (n q c r : ℕ) → q < n → r < n → Place n q (suc c) r → Place n (next n q) c r
-place_on n q c r h k (inl e) = dite (ℕ_discrete (q + 1) n) (λ z. absurd (omega (arith, z, e, k))) (λ z. inl (omega (arith, next_on n q z, e)))
-place_on n q c r h k (inr e) = dite (ℕ_discrete (q + 1) n) (λ z. inl (omega (arith, next_over n q z, z, e))) (λ z. inr (omega (arith, next_on n q z, e)))
+place_on n q c r h k (inl e) = dite (ℕ_discrete (q + 1) n) (λ z. absurd (omega (arith, z, e, k)))
+    (λ z. inl (omega (arith, next_on n q z, e)))
+place_on n q c r h k (inr e) = dite (ℕ_discrete (q + 1) n) (λ z. inl (omega (arith, next_over n q z, z, e)))
+    (λ z. inr (omega (arith, next_on n q z, e)))
 
 three_ways : (q r : ℕ) → (q < r) ⊎ ((q ≡ r) ⊎ (r < q))
 three_ways q r = dite (ℕ_discrete q r) (λ e. inr (inl e)) (λ e. apart (cases_lt q r) e)
@@ -87,14 +97,19 @@ module _ (f : Running → List Change) where
   picked n p q (s ∷ ss) = (if p q then f s else []) ++ picked n p (next n q) ss
 
   -- of one shard
-  of_shard : (n r c q : ℕ) (ss : List Running) → q < n → c < n → r < n → Place n q c r → flat_map f (share n c ss) ≡ picked n (λ j. j == r) q ss
+  of_shard : (n r c q : ℕ) (ss : List Running) → q < n → c < n → r < n → Place n q c r
+      → flat_map f (share n c ss) ≡ picked n (λ j. j == r) q ss
   unfolding share picked
   of_shard n r c q [] h k m at = refl
   of_shard n r zero q (s ∷ ss) h k m at =
       let is = first_place n q r h at in
       cc (eq-eqb q r is, of_shard n r (n - 1) (next n q) ss (next_below n q h) (omega (arith, h)) m (place_after n q r h is))
   of_shard n r (suc c) q (s ∷ ss) h k m at =
-      cc (ne_eqb q r (no_place n q c r k at), of_shard n r c (next n q) ss (next_below n q h) (omega (arith, k)) m (place_on n q c r h m at))
+      cc (
+        ne_eqb q r (no_place n q c r k at),
+        of_shard n r c (next n q) ss (next_below n q h) (omega (arith, k)) m
+            (place_on n q c r h m at),
+      )
 
   none_picked : (n q : ℕ) (ss : List Running) → picked n (λ j. nat_lt j 0) q ss ≡ []
   unfolding picked
@@ -119,14 +134,17 @@ module _ (f : Running → List Change) where
     above_if d true xs ys h k = above_both d xs ys h k
     above_if d false xs ys h k = k
 
-    above_picked : (n : ℕ) (p : ℕ → Bool) (d q : ℕ) (ss : List Running) → AllByRecursion (λ c. d < discr_of c) (configs_of ss) → AreAbove d (picked n p q ss)
+    above_picked : (n : ℕ) (p : ℕ → Bool) (d q : ℕ) (ss : List Running) → AllByRecursion (λ c. d < discr_of c) (configs_of ss)
+        → AreAbove d (picked n p q ss)
     unfolding picked
     above_picked n p d q [] h = tt
-    above_picked n p d q (s ∷ ss) h = above_if d (p q) (f s) (picked n p (next n q) ss) (above_own d (discr_of s.config) (f s) h.0 (own s)) (above_picked n p d (next n q) ss h.1)
+    above_picked n p d q (s ∷ ss) h = above_if d (p q) (f s) (picked n p (next n q) ss) (above_own d (discr_of s.config) (f s) h.0 (own s))
+        (above_picked n p d (next n q) ss h.1)
 
     -- of one shard more
     more_by : (n r q : ℕ) (s : Running) (ss : List Running) → AllByRecursion (λ c. discr_of s.config < discr_of c) (configs_of ss)
-        → merged (picked n (λ j. nat_lt j r) (next n q) ss) (picked n (λ j. j == r) (next n q) ss) ≡ picked n (λ j. nat_lt j (suc r)) (next n q) ss
+        → merged (picked n (λ j. nat_lt j r) (next n q) ss) (picked n (λ j. j == r) (next n q) ss)
+        ≡ picked n (λ j. nat_lt j (suc r)) (next n q) ss
         → (q < r) ⊎ ((q ≡ r) ⊎ (r < q))
         → merged (picked n (λ j. nat_lt j r) q (s ∷ ss)) (picked n (λ j. j == r) q (s ∷ ss)) ≡ picked n (λ j. nat_lt j (suc r)) q (s ∷ ss)
     unfolding picked
@@ -135,14 +153,16 @@ module _ (f : Running → List Change) where
       ne_eqb q r (λ z. omega (arith, z, less)),
       lt-ltb q (suc r) (omega (arith, less)),
       rest,
-      first_own (discr_of s.config) (f s) (picked n (λ j. nat_lt j r) (next n q) ss) (picked n (λ j. j == r) (next n q) ss) (own s) (above_picked n (λ j. j == r) (discr_of s.config) (next n q) ss h),
+      first_own (discr_of s.config) (f s) (picked n (λ j. nat_lt j r) (next n q) ss) (picked n (λ j. j == r) (next n q) ss) (own s)
+          (above_picked n (λ j. j == r) (discr_of s.config) (next n q) ss h),
     )
     more_by n r q s ss h rest (inr (inl e)) = cc (
       le-ltb q r (omega (arith, e)),
       eq-eqb q r e,
       lt-ltb q (suc r) (omega (arith, e)),
       rest,
-      first_other (discr_of s.config) (picked n (λ j. nat_lt j r) (next n q) ss) (f s) (picked n (λ j. j == r) (next n q) ss) (above_picked n (λ j. nat_lt j r) (discr_of s.config) (next n q) ss h) (own s),
+      first_other (discr_of s.config) (picked n (λ j. nat_lt j r) (next n q) ss) (f s) (picked n (λ j. j == r) (next n q) ss)
+          (above_picked n (λ j. nat_lt j r) (discr_of s.config) (next n q) ss h) (own s),
     )
     more_by n r q s ss h rest (inr (inr more)) =
         cc (le-ltb q r (omega (arith, more)), ne_eqb q r (λ z. omega (arith, z, more)), le-ltb q (suc r) (omega (arith, more)), rest)
@@ -157,10 +177,15 @@ module _ (f : Running → List Change) where
         → merged_of m (λ r. flat_map f (share n r ss)) ≡ picked n (λ j. nat_lt j m) 0 ss
     first_many n zero ss h some up = sym (none_picked n 0 ss)
     first_many n (suc m) ss h some up =
-        cc (first_many n m ss (omega (arith, h)) some up, of_shard n m m 0 ss some (omega (arith, h)) (omega (arith, h)) (inl (omega arith)), one_more n m 0 ss up)
+        cc (
+          first_many n m ss (omega (arith, h)) some up,
+          of_shard n m m 0 ss some (omega (arith, h)) (omega (arith, h)) (inl (omega arith)),
+          one_more n m 0 ss up,
+        )
 
     -- of all shards
-    pub all_of : (n : ℕ) (ss : List Running) → 0 < n → Ascends (configs_of ss) → merged_of n (λ r. flat_map f (share n r ss)) ≡ flat_map f ss
+    pub all_of : (n : ℕ) (ss : List Running) → 0 < n → Ascends (configs_of ss)
+        → merged_of n (λ r. flat_map f (share n r ss)) ≡ flat_map f ss
     all_of n ss some up = cc (first_many n n ss (omega arith) some up, all_picked n 0 ss some)
 
 -- lists that are the same, none, or one of them alone
@@ -173,11 +198,23 @@ pub none_of : (m : ℕ) → merged_of m (λ r. []) ≡ []
 none_of zero = refl
 none_of (suc m) = cc (none_of m)
 
-before_by : (m k : ℕ) (cs : List Change) → merged_of m (λ r. if k == r then cs else []) ≡ (if nat_lt k m then cs else []) → (k < m) ⊎ ((k ≡ m) ⊎ (m < k))
+before_by : (m k : ℕ) (cs : List Change) → merged_of m (λ r. if k == r then cs else []) ≡ (if nat_lt k m then cs else [])
+    → (k < m) ⊎ ((k ≡ m) ⊎ (m < k))
     → merged_of (suc m) (λ r. if k == r then cs else []) ≡ (if nat_lt k (suc m) then cs else [])
-before_by m k cs so_far (inl less) = cc (so_far, lt-ltb k m less, ne_eqb k m (λ z. omega (arith, z, less)), lt-ltb k (suc m) (omega (arith, less)), merged_nil cs)
+before_by m k cs so_far (inl less) = cc (
+  so_far,
+  lt-ltb k m less,
+  ne_eqb k m (λ z. omega (arith, z, less)),
+  lt-ltb k (suc m) (omega (arith, less)),
+  merged_nil cs,
+)
 before_by m k cs so_far (inr (inl e)) = cc (so_far, le-ltb k m (omega (arith, e)), eq-eqb k m e, lt-ltb k (suc m) (omega (arith, e)))
-before_by m k cs so_far (inr (inr more)) = cc (so_far, le-ltb k m (omega (arith, more)), ne_eqb k m (λ z. omega (arith, z, more)), le-ltb k (suc m) (omega (arith, more)))
+before_by m k cs so_far (inr (inr more)) = cc (
+  so_far,
+  le-ltb k m (omega (arith, more)),
+  ne_eqb k m (λ z. omega (arith, z, more)),
+  le-ltb k (suc m) (omega (arith, more)),
+)
 
 one_before : (m k : ℕ) (cs : List Change) → merged_of m (λ r. if k == r then cs else []) ≡ (if nat_lt k m then cs else [])
 one_before zero k cs = rw (le-ltb k 0 (omega arith)) refl

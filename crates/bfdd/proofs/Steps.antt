@@ -11,7 +11,8 @@ use Rattle.bfd_watch.specs.Watched.{change_line, watched_lines, group_line, if_m
 use Rattle.bfd_watch.proofs.Lines.{group_twice, none_heard}
 
 -- its lines
-pub lines_step : (text : List ℕ) {more : List ℕ} (n : ℕ) {o : Outcome} {all os : List Outcome} {cs : List Change} (g : Group) {after : Group} {goal : List ℕ}
+pub lines_step : (text : List ℕ) {more : List ℕ} (n : ℕ) {o : Outcome} {all os : List Outcome} {cs : List Change}
+    (g : Group) {after : Group} {goal : List ℕ}
     → all ≡ o ∷ os → cs ≡ changes_in n o.items → after ≡ group_after cs g
     → more ≡ text ++ watched_lines n cs g → text ++ watched_lines_from n all g ≡ goal → more ++ watched_lines_from (n + 1) os after ≡ goal
 unfolding watched_lines_from
@@ -28,7 +29,8 @@ group_step n {o} {os} g split are moved so_far = cc (group_twice (changes_in n o
 
 -- and the number of changes
 pub count_step : (n told more : ℕ) {goal : ℕ} {o : Outcome} {all os : List Outcome} {cs : List Change} → all ≡ o ∷ os
-    → cs ≡ changes_in n o.items → more ≡ told + length cs → told + length (changes_from n all) ≡ goal → more + length (changes_from (n + 1) os) ≡ goal
+    → cs ≡ changes_in n o.items → more ≡ told + length cs → told + length (changes_from n all) ≡ goal
+    → more + length (changes_from (n + 1) os) ≡ goal
 unfolding changes_from
 count_step n told more {o} {os} split are added so_far = omega (
   arith,
@@ -48,7 +50,8 @@ lines_some : (n : ℕ) (cs : List Change) → length cs ≤ length (flat_map (ch
 lines_some n [] = omega arith
 lines_some n (c ∷ cs) = omega (arith, line_some n c, lines_some n cs, length-append (change_line n c) (flat_map (change_line n) cs))
 
-pub few_step : (text : List ℕ) {more : List ℕ} (n : ℕ) {told : ℕ} (cs : List Change) (g : Group) → more ≡ text ++ watched_lines n cs g → told ≤ length text
+pub few_step : (text : List ℕ) {more : List ℕ} (n : ℕ) {told : ℕ} (cs : List Change) (g : Group) → more ≡ text ++ watched_lines n cs g
+    → told ≤ length text
     → told + length cs ≤ length more
 few_step text n cs g is few = omega (
   arith,
@@ -61,7 +64,8 @@ few_step text n cs g is few = omega (
 
 -- the end: nothing is left
 pub end_told : (text : List ℕ) {more : List ℕ} (n told : ℕ) {all : List Outcome} (goal : List Outcome) (g before : Group) → all ≡ []
-    → text ++ watched_lines_from n all g ≡ watched_lines_from 1 goal before → group_after (changes_from n all) g ≡ group_after (changes_from 1 goal) before
+    → text ++ watched_lines_from n all g ≡ watched_lines_from 1 goal before
+    → group_after (changes_from n all) g ≡ group_after (changes_from 1 goal) before
     → told + length (changes_from n all) ≡ length (changes_from 1 goal) → more ≡ text ++ watched_line told g → more ≡ watched goal before
 unfolding watched_lines_from changes_from
 end_told text n told goal g before none whole after counted added =

@@ -8,7 +8,8 @@ use Rattle.bfdd.specs.declared.words.job.Job.{Job}
 use Rattle.bfdd.specs.declared.words.job.Job.TheVariants.{Serve}
 
 -- a job that doesn't serve tells what its bytes decide
-pub closed_tells : (job : Job) (left right : Option (List ℕ)) (old new : Edges) (w : Wanted) → serves job ≡ false → TellsBytes job left right w
+pub closed_tells : (job : Job) (left right : Option (List ℕ)) (old new : Edges) (w : Wanted) → serves job ≡ false
+    → TellsBytes job left right w
     → Tells job left right old new w
 closed_tells (Serve hands turns ticks journal) left right old new w closed tells = cc
 closed_tells job left right old new w closed tells = tells

@@ -1,5 +1,11 @@
 -- The text of a script, event by event, and what is known of it once the engine is closed.
-use Rattle.bfdd.proofs.WatchedTextCommon.{◌≡◌, ◌<◌, ◌≤◌, ◌+◌, ◌++◌, ◌∙◌, ◌∷◌, ℕ, [], List, length, map, sym, ap, subst, refl, arith, length-map, slice_index_or, get_or_from_slice_get, Outcome, Ascends, started, Line, ShardEvent, share, history_of, last_tick, last_from, runs, EngineFault, Full, Memory, Spent, Knows, Shards, seen_at, IsNewPass, entry_of, happening_outcomes, in_shard, happening, happenings, IsSole, entries_by, left_runs, Change, changes_in, changes_from, Group, group_after, Watching, watching, watched, watched_line, watched_lines, watched_lines_from, AllSole, AreBehind, AreWatched, IsRefusal, IsCutShort, IsUntaken, Went, brought, merged_of, news, outcome_in}
+use Rattle.bfdd.proofs.WatchedTextCommon.{◌≡◌, ◌<◌, ◌≤◌, ◌+◌, ◌++◌, ◌∙◌, ◌∷◌, ℕ, [], List, length, map, sym, ap, subst, refl, arith}
+use Rattle.bfdd.proofs.WatchedTextCommon.{length-map, slice_index_or, get_or_from_slice_get, Outcome, Ascends, started, Line, ShardEvent}
+use Rattle.bfdd.proofs.WatchedTextCommon.{share, history_of, last_tick, last_from, runs, EngineFault, Full, Memory, Spent, Knows, Shards}
+use Rattle.bfdd.proofs.WatchedTextCommon.{seen_at, IsNewPass, entry_of, happening_outcomes, in_shard, happening, happenings, IsSole}
+use Rattle.bfdd.proofs.WatchedTextCommon.{entries_by, left_runs, Change, changes_in, changes_from, Group, group_after, Watching, watching}
+use Rattle.bfdd.proofs.WatchedTextCommon.{watched, watched_line, watched_lines, watched_lines_from, AllSole, AreBehind, AreWatched}
+use Rattle.bfdd.proofs.WatchedTextCommon.{IsRefusal, IsCutShort, IsUntaken, Went, brought, merged_of, news, outcome_in}
 use Rattle.bfd_shard.proofs.Runs.{runs_configs}
 use Rattle.bfd_script.specs.Doing.{doing}
 use Rattle.bfd_replay.proofs.Going.{entries_both, went_on}
@@ -10,9 +16,11 @@ use Rattle.bfdd.proofs.Steps.{lines_step, group_step, count_step, end_told}
 
 -- what these lines give, after these events of the sessions
 abbrev pub outcomes_from : Shards → List Line → List ShardEvent → List Outcome
-outcomes_from engine lines past = happening_outcomes (last_tick past) (happenings engine.configs engine.pool lines) (runs past engine.configs)
+outcomes_from engine lines past = happening_outcomes (last_tick past) (happenings engine.configs engine.pool lines)
+    (runs past engine.configs)
 
-pub outcomes_start : (engine : Shards) (lines : List Line) → outcomes_from engine lines [] ≡ happening_outcomes 0 (happenings engine.configs engine.pool lines) (map started engine.configs)
+pub outcomes_start : (engine : Shards) (lines : List Line)
+    → outcomes_from engine lines [] ≡ happening_outcomes 0 (happenings engine.configs engine.pool lines) (map started engine.configs)
 unfolding last_from
 outcomes_start engine lines =
     let e : map started engine.configs ≡ runs [] engine.configs = left_runs [] engine.configs in
@@ -22,10 +30,14 @@ outcomes_start engine lines =
 pub record IsTold (engine : Shards) (lines left : List Line) (k : Knows) (number told : ℕ) (text : List ℕ) (before g : Group) : Type 0 where
   pub past : List ShardEvent
   pub short : length past + 1 ≤ number
-  pub seen : (r : ℕ) → r < length engine.locks → IsSole 0 (seen_at k r) → seen_at k r ≡ entries_by 0 (history_of (length engine.locks) r past)
-  pub whole : AllSole (length engine.locks) k → text ++ watched_lines_from number (outcomes_from engine left past) g ≡ watched_lines_from 1 (outcomes_from engine lines []) before
-  pub after : AllSole (length engine.locks) k → group_after (changes_from number (outcomes_from engine left past)) g ≡ group_after (changes_from 1 (outcomes_from engine lines [])) before
-  pub counted : AllSole (length engine.locks) k → told + length (changes_from number (outcomes_from engine left past)) ≡ length (changes_from 1 (outcomes_from engine lines []))
+  pub seen : (r : ℕ) → r < length engine.locks → IsSole 0 (seen_at k r)
+      → seen_at k r ≡ entries_by 0 (history_of (length engine.locks) r past)
+  pub whole : AllSole (length engine.locks) k → text ++ watched_lines_from number (outcomes_from engine left past) g
+      ≡ watched_lines_from 1 (outcomes_from engine lines []) before
+  pub after : AllSole (length engine.locks) k → group_after (changes_from number (outcomes_from engine left past)) g
+      ≡ group_after (changes_from 1 (outcomes_from engine lines [])) before
+  pub counted : AllSole (length engine.locks) k → told + length (changes_from number (outcomes_from engine left past))
+      ≡ length (changes_from 1 (outcomes_from engine lines []))
 
 pub told_none : {engine : Shards} (lines : List Line) {k : Knows} (g : Group) → IsNewPass engine k → IsTold engine lines lines k 1 0 [] g g
 told_none lines g new = record {
@@ -38,22 +50,30 @@ told_none lines g new = record {
 }
 
 -- at the loop's first turn
-pub told_first : {engine : Shards} {lines left : List Line} {k : Knows} {text : List ℕ} (g : Group) → IsNewPass engine k → left ≡ lines → text ≡ [] → IsTold engine lines left k 1 0 text g g
+pub told_first : {engine : Shards} {lines left : List Line} {k : Knows} {text : List ℕ} (g : Group) → IsNewPass engine k → left ≡ lines
+    → text ≡ [] → IsTold engine lines left k 1 0 text g g
 told_first {engine} {lines} {left} {k} g new same none =
-    subst (λ t. IsTold engine lines left k 1 0 t g g) (sym none) (subst (λ ls. IsTold engine lines ls k 1 0 [] g g) (sym same) (told_none lines g new))
+    subst (λ t. IsTold engine lines left k 1 0 t g g) (sym none)
+    (subst (λ ls. IsTold engine lines ls k 1 0 [] g g) (sym same) (told_none lines g new))
 
 -- behind a line the watches lack no more than what it brought
-pub behind_after : {engine : Shards} {limit : ℕ} {k l : Knows} {watches : List Watching} {new : ℕ → List ShardEvent} → AreWatched engine limit k watches
+pub behind_after : {engine : Shards} {limit : ℕ} {k l : Knows} {watches : List Watching} {new : ℕ → List ShardEvent}
+    → AreWatched engine limit k watches
     → ((r : ℕ) → r < length engine.locks → Went k l (new r) r) → AreBehind engine limit l watches
-behind_after {k = k} w went = record { long = w.long; each = λ r inside. record { before = seen_at k r; is = w.each r inside; begins = (went r inside).begins } }
+behind_after {k = k} w went = record {
+  long = w.long;
+  each = λ r inside. record { before = seen_at k r; is = w.each r inside; begins = (went r inside).begins };
+}
 
 -- a shard's history, after a line and after the looks at it
-both : (engine : Shards) (line : Line) {k l m : Knows} → ((r : ℕ) → r < length engine.locks → Went k l (brought (length engine.locks) (happening engine.configs engine.pool line) r) r)
+both : (engine : Shards) (line : Line) {k l m : Knows}
+    → ((r : ℕ) → r < length engine.locks → Went k l (brought (length engine.locks) (happening engine.configs engine.pool line) r) r)
     → ((r : ℕ) → r < length engine.locks → Went l m [] r) → (r : ℕ) → r < length engine.locks
     → Went k m (brought (length engine.locks) (happening engine.configs engine.pool line) r) r
 both engine line went looked r inside = went_on (went r inside) (looked r inside)
 
-seen_next : {engine : Shards} {lines left : List Line} (line : Line) {k m : Knows} {number told : ℕ} {text : List ℕ} {before g : Group} (t : IsTold engine lines left k number told text before g)
+seen_next : {engine : Shards} {lines left : List Line} (line : Line) {k m : Knows} {number told : ℕ} {text : List ℕ} {before g : Group}
+    (t : IsTold engine lines left k number told text before g)
     → ((r : ℕ) → r < length engine.locks → Went k m (brought (length engine.locks) (happening engine.configs engine.pool line) r) r)
     → (r : ℕ) → r < length engine.locks → IsSole 0 (seen_at m r)
     → seen_at m r ≡ entries_by 0 (history_of (length engine.locks) r (past_after t.past (happening engine.configs engine.pool line)))
@@ -64,37 +84,49 @@ seen_next {engine} line t went r inside sole =
     cc (w.seen sole, t.seen r inside (w.sole sole), entries_both (history_of n r t.past) (brought n h r), history_after n r t.past h)
 
 -- what all watches tell is what the line gives
-changes_are : {engine : Shards} {lines left : List Line} (line : Line) {k m : Knows} {number told : ℕ} {text : List ℕ} {before g : Group} {limit : ℕ} {watches : List Watching} {changes : List Change} (t : IsTold engine lines left k number told text before g)
+changes_are : {engine : Shards} {lines left : List Line} (line : Line) {k m : Knows} {number told : ℕ} {text : List ℕ} {before
+    g : Group} {limit : ℕ} {watches : List Watching} {changes : List Change} (t : IsTold engine lines left k number told text before g)
     → 0 < length engine.locks → Ascends engine.configs
     → ((r : ℕ) → r < length engine.locks → Went k m (brought (length engine.locks) (happening engine.configs engine.pool line) r) r)
-    → AreWatched engine limit k watches → ((d : Watching) → changes ≡ merged_of (length engine.locks) (λ r. news number (slice_index_or watches r d) (seen_at m r)))
+    → AreWatched engine limit k watches → ((d : Watching)
+    → changes ≡ merged_of (length engine.locks) (λ r. news number (slice_index_or watches r d) (seen_at m r)))
     → AllSole (length engine.locks) m
-    → changes ≡ changes_in number (outcome_in (last_tick t.past) (happening engine.configs engine.pool line) (runs t.past engine.configs)).items
+    → changes ≡ changes_in number (outcome_in (last_tick t.past) (happening engine.configs engine.pool line)
+    (runs t.past engine.configs)).items
 changes_are {engine} line {k} {m} {number} {limit = limit} {watches} t some up went watched_as news_are s =
     let n = length engine.locks in
     let cs = engine.configs in
     let h = happening engine.configs engine.pool line in
     let d : Watching = watching [] [] 0 in
-    news_are d ∙ (same_of n (λ r. news number (slice_index_or watches r d) (seen_at m r)) (λ r. shard_news number (last_tick t.past) (in_shard n r h) (share n r (runs t.past cs)))
+    news_are d ∙ (same_of n (λ r. news number (slice_index_or watches r d) (seen_at m r))
+    (λ r. shard_news number (last_tick t.past) (in_shard n r h) (share n r (runs t.past cs)))
     (λ r inside. let w = went r inside in
-    ap (λ x. news number x (seen_at m r)) (get_or_from_slice_get watches r (watching (share n r cs) (seen_at k r) limit) d (watched_as.each r inside))
-    ∙ shard_tells n r number (seen_at k r) (seen_at m r) limit t.past h cs inside (t.seen r inside (w.sole (s r inside))) (w.seen (s r inside)))
-    ∙ all_tell number (last_tick t.past) h (runs t.past cs) some (subst Ascends (sym (runs_configs 0 t.past cs)) up) (is_quiet engine.pool (doing cs engine.pool line)))
+    ap (λ x. news number x (seen_at m r)) (get_or_from_slice_get watches r (watching (share n r cs) (seen_at k r) limit) d
+    (watched_as.each r inside))
+    ∙ shard_tells n r number (seen_at k r) (seen_at m r) limit t.past h cs inside (t.seen r inside (w.sole (s r inside)))
+    (w.seen (s r inside)))
+    ∙ all_tell number (last_tick t.past) h (runs t.past cs) some (subst Ascends (sym (runs_configs 0 t.past cs)) up)
+    (is_quiet engine.pool (doing cs engine.pool line)))
 
 -- a line more is told
-pub told_next : {engine : Shards} {lines left rest : List Line} {line : Line} {k l m : Knows} {number told : ℕ} {text : List ℕ} {before g : Group} {limit told2 : ℕ} {watches : List Watching} {changes : List Change} {text2 : List ℕ} {g2 : Group} → 0 < length engine.locks → Ascends engine.configs
+pub told_next : {engine : Shards} {lines left rest : List Line} {line : Line} {k l m : Knows} {number told : ℕ} {text : List ℕ} {before
+    g : Group} {limit told2 : ℕ} {watches : List Watching} {changes : List Change} {text2 : List ℕ} {g2 : Group} → 0 < length engine.locks
+    → Ascends engine.configs
     → IsTold engine lines left k number told text before g → left ≡ line ∷ rest
     → ((r : ℕ) → r < length engine.locks → Went k l (brought (length engine.locks) (happening engine.configs engine.pool line) r) r)
     → ((r : ℕ) → r < length engine.locks → Went l m [] r) → AreWatched engine limit k watches
     → ((d : Watching) → changes ≡ merged_of (length engine.locks) (λ r. news number (slice_index_or watches r d) (seen_at m r)))
     → told2 ≡ told + length changes → text2 ≡ text ++ watched_lines number changes g → g2 ≡ group_after changes g
     → IsTold engine lines rest m (number + 1) told2 text2 before g2
-told_next {engine} {left = left} {rest} {line} {k} {m = m} {number} {told} {text} {g = g} {told2 = told2} {changes = changes} {text2} {g2} some up t split went looked watched_as news_are counted_is text_is group_is =
+told_next {engine} {left = left} {rest} {line} {k} {m = m} {number} {told} {text} {g = g} {told2 = told2} {changes = changes} {text2} {g2}
+    some up t split went looked watched_as news_are counted_is text_is group_is =
     let h = happening engine.configs engine.pool line in
     let w = both engine line went looked in
-    let first : outcomes_from engine left t.past ≡ outcome_in (last_tick t.past) h (runs t.past engine.configs) ∷ outcomes_from engine rest (past_after t.past h) =
+    let first : outcomes_from engine left t.past ≡ outcome_in (last_tick t.past) h (runs t.past engine.configs) ∷ outcomes_from engine rest
+    (past_after t.past h) =
     ap (λ ls. outcomes_from engine ls t.past) split ∙ outcome_first engine.configs t.past h (happenings engine.configs engine.pool rest) in
-    let are : AllSole (length engine.locks) m → changes ≡ changes_in number (outcome_in (last_tick t.past) h (runs t.past engine.configs)).items =
+    let are : AllSole (length engine.locks) m → changes
+    ≡ changes_in number (outcome_in (last_tick t.past) h (runs t.past engine.configs)).items =
     changes_are line t some up w watched_as news_are in
     let earlier : AllSole (length engine.locks) m → AllSole (length engine.locks) k = λ s r inside. (w r inside).sole (s r inside) in
     record {
@@ -108,11 +140,14 @@ told_next {engine} {left = left} {rest} {line} {k} {m = m} {number} {told} {text
 
 -- a line that was refused
 
-pub refused_stopped : {engine : Shards} {lines left : List Line} {k : Knows} (l : Knows) {number told : ℕ} {text : List ℕ} {before g : Group} (fault : EngineFault) → IsTold engine lines left k number told text before g → number ≤ engine.limit → IsRefusal fault engine k l → IsCutShort fault engine l
+pub refused_stopped : {engine : Shards} {lines left : List Line} {k : Knows}
+    (l : Knows) {number told : ℕ} {text : List ℕ} {before g : Group} (fault : EngineFault)
+    → IsTold engine lines left k number told text before g → number ≤ engine.limit → IsRefusal fault engine k l → IsCutShort fault engine l
 refused_stopped {engine} {k = k} l {number} fault t few r = cut_short engine k l t.past number fault (omega (arith, t.short)) few t.seen r
 
 -- .. or whose changes couldn't be had
-pub untaken_stopped : {engine : Shards} {lines left : List Line} (line : Line) {k l m : Knows} {number told : ℕ} {text : List ℕ} {before g : Group} (fault : EngineFault) → IsTold engine lines left k number told text before g → number ≤ engine.limit
+pub untaken_stopped : {engine : Shards} {lines left : List Line} (line : Line) {k l m : Knows} {number told : ℕ} {text : List ℕ} {before
+    g : Group} (fault : EngineFault) → IsTold engine lines left k number told text before g → number ≤ engine.limit
     → ((r : ℕ) → r < length engine.locks → Went k l (brought (length engine.locks) (happening engine.configs engine.pool line) r) r)
     → ((r : ℕ) → r < length engine.locks → Went l m [] r)
     → (r : ℕ) × (r < length engine.locks) × IsUntaken fault engine engine.limit r m → IsCutShort fault engine m
@@ -122,12 +157,22 @@ untaken_stopped {engine} line (Full at n) t few went looked u = λ s.
     let h = happening engine.configs engine.pool line in
     let is = seen_next line t (both engine line went looked) u.0 u.1 (s u.0 u.1) in
     let hist : List ShardEvent = history_of (length engine.locks) u.0 (past_after t.past h) in
-    absurd (omega (arith, ap length is, length-map hist (entry_of 0), history_few (length engine.locks) u.0 (past_after t.past h), past_few t.past h, t.short, u.2.1, few))
+    absurd (omega (
+      arith,
+      ap length is,
+      length-map hist (entry_of 0),
+      history_few (length engine.locks) u.0 (past_after t.past h),
+      past_few t.past h,
+      t.short,
+      u.2.1,
+      few,
+    ))
 
 -- the end: nothing is left
 pub told_all : {engine : Shards} {lines left : List Line} {k : Knows} {number told : ℕ} {text more : List ℕ} {before g : Group} → left ≡ []
     → IsTold engine lines left k number told text before g → more ≡ text ++ watched_line told g → AllSole (length engine.locks) k
     → more ≡ watched (happening_outcomes 0 (happenings engine.configs engine.pool lines) (map started engine.configs)) before
 told_all {engine} {lines} {left} {number = number} {told} {text} {before = before} {g} none t added s =
-    end_told text number told (outcomes_from engine lines []) g before (ap (λ ls. outcomes_from engine ls t.past) none) (t.whole s) (t.after s) (t.counted s) added
+    end_told text number told (outcomes_from engine lines []) g before (ap (λ ls. outcomes_from engine ls t.past) none) (t.whole s)
+    (t.after s) (t.counted s) added
     ∙ ap (λ os. watched os before) (outcomes_start engine lines)

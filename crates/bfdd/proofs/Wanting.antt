@@ -1,5 +1,6 @@
 -- What is true of what is wanted.
-use Rattle.bfdd.proofs.Common.{◌≡◌, ◌⊎◌, ℕ, List, Option, Some, None, inl, inr, refl, sym, subst, IfSome, Job, Status, Done, ReadFault, WriteFault, Memory, IsDecided, Wanted, wanted, wanted_of}
+use Rattle.bfdd.proofs.Common.{◌≡◌, ◌⊎◌, ℕ, List, Option, Some, None, inl, inr, refl, sym, subst, IfSome, Job, Status, Done, ReadFault}
+use Rattle.bfdd.proofs.Common.{WriteFault, Memory, IsDecided, Wanted, wanted, wanted_of}
 
 -- what is true of whatever may be wanted
 pub of_all : (known : Option Wanted) (P : Wanted → Type 0) → ((w : Wanted) → P w) → IfSome known P

@@ -1,5 +1,8 @@
 -- What comes of writing an answer, clause by clause of a run.
-use Rattle.bfdd.proofs.Common.{◌≡◌, ◌≢◌, ◌⊎◌, ℕ, List, [], Option, inl, inr, refl, sym, ◌∙◌, subst, append-nil, Rose, Status, Done, Usage, BadLine, ReadFault, WriteFault, PortFault, LinkFault, TooLarge, JournalFull, Turns, ClockFault, Memory, NoMember, IsDecided, IsWrittenBy, OnBadLine, UnlessWriting, WhereUnwritten, Wanted, complaint_line, Appends, TookFront, took_nothing}
+use Rattle.bfdd.proofs.Common.{◌≡◌, ◌≢◌, ◌⊎◌, ℕ, List, [], Option, inl, inr, refl, sym, ◌∙◌, subst, append-nil, Rose, Status, Done, Usage}
+use Rattle.bfdd.proofs.Common.{BadLine, ReadFault, WriteFault, PortFault, LinkFault, TooLarge, JournalFull, Turns, ClockFault, Memory}
+use Rattle.bfdd.proofs.Common.{NoMember, IsDecided, IsWrittenBy, OnBadLine, UnlessWriting, WhereUnwritten, Wanted, complaint_line, Appends}
+use Rattle.bfdd.proofs.Common.{TookFront, took_nothing}
 use Rattle.std.proofs.KnownBytes.{Appends-nil}
 use Rattle.bfd_script.specs.declared.fields.fault.BadLine.{BadLine as FaultyLine}
 use Rattle.bfdd.specs.Answers.{HasText, IsAnswer}
@@ -88,7 +91,8 @@ broken_unlike ReadFault text goes = absurd goes
 broken_unlike status text goes = (λ is. cc, λ is. cc, λ is. cc)
 
 -- the text of a faulty line is its complaint
-complained : (status : Status) (text : List ℕ) (P : List ℕ → Type 0) (bad : FaultyLine) → BadLine bad.line bad.fault ≡ status → HasText status text
+complained : (status : Status) (text : List ℕ) (P : List ℕ → Type 0) (bad : FaultyLine) → BadLine bad.line bad.fault ≡ status
+    → HasText status text
     → P text → P (complaint_line bad)
 complained status text P bad is goes fact =
     let same = subst (λ s. HasText s text) (sym is) goes in subst P same fact
@@ -111,7 +115,8 @@ module _ (w : Wanted) (result : Status) (old new : Option (List ℕ)) (before no
   appended_none nothing same = rw same (rw nothing (Appends-nil old))
 
   pub written : Writes w result old new before now → IsWrittenBy result old new before now w.text
-  written (inl (inl silent)) = rw silent.status (whole_by w.status old new before now w.text goes (appended_none silent.nothing silent.same))
+  written (inl (inl silent)) = rw silent.status (whole_by w.status old new before now w.text goes
+      (appended_none silent.nothing silent.same))
   written (inl (inr whole)) = rw whole.status (whole_by w.status old new before now w.text goes whole.whole)
   written (inr (inl broken)) = rw broken.status (broken_by w.status old new before goes (broken.rose, broken.front))
   written (inr (inr cut)) = rw cut.status cut.front

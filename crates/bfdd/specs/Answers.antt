@@ -1,7 +1,8 @@
 -- What a run has to write, before it writes it.
 use Rattle.std.specs.Prelude.{◌≡◌, List, ℕ, [], ⊤}
 use Rattle.bfdd.specs.declared.job.status.Status.{Status}
-use Rattle.bfdd.specs.declared.job.status.Status.TheVariants.{Done, Usage, BadLine, ReadFault, WriteFault, PortFault, LinkFault, TooLarge, JournalFull, Turns, ClockFault, Memory, NoMember}
+use Rattle.bfdd.specs.declared.job.status.Status.TheVariants.{Done, Usage, BadLine, ReadFault, WriteFault, PortFault, LinkFault, TooLarge}
+use Rattle.bfdd.specs.declared.job.status.Status.TheVariants.{JournalFull, Turns, ClockFault, Memory, NoMember}
 use Rattle.bfdd.specs.Text.{Wanted, complaint_line}
 
 -- the text that goes with a status: a faulty line has its complaint, and what is refused before anything ran has none; some no job has

@@ -1,7 +1,8 @@
 -- The code of a status.
 use Rattle.std.specs.Prelude.{ℕ}
 use Rattle.bfdd.specs.declared.job.status.Status.{Status}
-use Rattle.bfdd.specs.declared.job.status.Status.TheVariants.{Done, Usage, BadLine, ReadFault, WriteFault, PortFault, LinkFault, TooLarge, JournalFull, Turns, ClockFault, Memory, NoMember}
+use Rattle.bfdd.specs.declared.job.status.Status.TheVariants.{Done, Usage, BadLine, ReadFault, WriteFault, PortFault, LinkFault, TooLarge}
+use Rattle.bfdd.specs.declared.job.status.Status.TheVariants.{JournalFull, Turns, ClockFault, Memory, NoMember}
 
 -- the code that the program ends with
 abbrev pub code_of : Status → ℕ

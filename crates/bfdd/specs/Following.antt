@@ -1,5 +1,6 @@
 -- What clients of an engine's shards are told after an event.
-use Rattle.std.specs.Prelude.{ℕ, zero, suc, ◌≡◌, ◌<◌, ◌++◌, List, [], ◌∷◌, length, map, drop, slice_get, nat_lt, if◌then◌else◌, Option, Some}
+use Rattle.std.specs.Prelude.{ℕ, zero, suc, ◌≡◌, ◌<◌, ◌++◌, List, [], ◌∷◌, length, map, drop, slice_get, nat_lt, if◌then◌else◌, Option}
+use Rattle.std.specs.Prelude.{Some}
 use Rattle.bfd_shard.specs.declared.entry.Entry.{Entry}
 use Rattle.bfd_turn.specs.Lists.{Begins}
 use Rattle.bfd_turn.specs.Passes.{last_word}

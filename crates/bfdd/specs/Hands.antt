@@ -10,5 +10,7 @@ use Rattle.bfdd.specs.declared.job.replaying.ShardsOf.TheVariants.{Hashed, Level
 -- these closed shards are as many as were asked for, keep their timers in the form that was asked for, and each was worked on by the
 -- caller that takes it among as many workers as were asked for
 abbrev pub IsWrittenBy : Hands → Lists → ShardsOf → Type 0
-IsWrittenBy hands script (Hashed closed) = (hands.timers ≡ form.Hashed) × HaveReplayed script hands.shards (taker_of hands.workers) closed.value.items
-IsWrittenBy hands script (Levels closed) = (hands.timers ≡ form.Levels) × HaveReplayed script hands.shards (taker_of hands.workers) closed.value.items
+IsWrittenBy hands script (Hashed closed) = (hands.timers ≡ form.Hashed)
+    × HaveReplayed script hands.shards (taker_of hands.workers) closed.value.items
+IsWrittenBy hands script (Levels closed) = (hands.timers ≡ form.Levels)
+    × HaveReplayed script hands.shards (taker_of hands.workers) closed.value.items

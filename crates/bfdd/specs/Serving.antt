@@ -96,7 +96,8 @@ pub record IsOverlong (left right : Option (List ℕ)) (w : Wanted) : Type 0 whe
 
 -- why no script was read, and whether the count of the source rose
 abbrev pub IsUnread : Option (List ℕ) → Option (List ℕ) → ℕ → ℕ → Unread → Type 0
-IsUnread left right before now (Told answer) = (IsFaulty left right answer ⊎ IsOverlong left right answer) × IsAnswer answer × (now ≡ before)
+IsUnread left right before now (Told answer) = (IsFaulty left right answer ⊎ IsOverlong left right answer) × IsAnswer answer
+    × (now ≡ before)
 IsUnread left right before now Failed = Rose before now
 IsUnread left right before now Memory = now ≡ before
 

@@ -7,7 +7,8 @@ use Rattle.bfd_edge.specs.Faults.{Rose}
 use Rattle.bfd_script.specs.declared.fields.fault.BadLine.{BadLine as FaultyLine}
 use Rattle.bfdd.specs.declared.words.job.Job.{Job}
 use Rattle.bfdd.specs.declared.job.status.Status.{Status}
-use Rattle.bfdd.specs.declared.job.status.Status.TheVariants.{Done, Usage, BadLine, ReadFault, WriteFault, PortFault, LinkFault, TooLarge, JournalFull, Turns, ClockFault, Memory, NoMember}
+use Rattle.bfdd.specs.declared.job.status.Status.TheVariants.{Done, Usage, BadLine, ReadFault, WriteFault, PortFault, LinkFault, TooLarge}
+use Rattle.bfdd.specs.declared.job.status.Status.TheVariants.{JournalFull, Turns, ClockFault, Memory, NoMember}
 use Rattle.bfd_replay.specs.Written.{TookFront}
 use Rattle.bfdd.specs.Words.{is_reading, is_serving, is_watching}
 

@@ -9,7 +9,8 @@ use Rattle.bfdd.specs.declared.words.job.Job.{Job}
 use Rattle.bfdd.specs.Status.{IsDecided, IsWrittenBy}
 
 -- a status, and what a sink took, where something was told
-pub record IsTold (job : Job) (left right : Option (List ℕ)) (old new : Edges) (taken took : Option (List ℕ)) (before now : ℕ) (status : Status) : Type 0 where
+pub record IsTold (job : Job) (left right : Option (List ℕ)) (old new : Edges) (taken took : Option (List ℕ)) (before now : ℕ)
+    (status : Status) : Type 0 where
   pub w : Wanted
   pub tells : Tells job left right old new w
   pub decided : IsDecided status w.status

@@ -1,5 +1,6 @@
 -- What a run does with the text of its source.
-use Rattle.std.specs.Prelude.{true, false, ℕ, List, [], ◌∷◌, ◌++◌, length, nat_lt, codes, Option, Some, None, Result, Ok, Err, if◌then◌else◌}
+use Rattle.std.specs.Prelude.{true, false, ℕ, List, [], ◌∷◌, ◌++◌, length, nat_lt, codes, Option, Some, None, Result, Ok, Err}
+use Rattle.std.specs.Prelude.{if◌then◌else◌}
 use Rattle.std.specs.Fmt.{decimal}
 use Rattle.bfd_script.specs.declared.fields.fault.BadLine.{BadLine as FaultyLine}
 use Rattle.bfd_script.specs.Complaints.{complaint}

@@ -5,7 +5,7 @@
 //! `run`, over any source, any sink, any ports and any ticker.
 //!
 //! Layers, lowest first: `words` (the grammar of the command line), `job` (what each word has to write), `output` (an answer's text to a
-//! sink, and what comes of that), `running` ([`run`] itself).
+//! sink, and the result of that), `running` ([`run`] itself).
 //!
 //! It stands on `bfd_replay`, `bfd_serve`, `bfd_watch`, `bfd_pair` and `bfd_load` for what each word does, and on `bfd_edge` and `bfd_net`
 //! for the outside.
@@ -28,7 +28,7 @@ use std::env;
 use std::io::ErrorKind;
 use std::process::ExitCode;
 
-/// The status where the words can't be had: Memory where there is no memory for them, and else Usage, as where one isn't UTF-8.
+/// The status where the words aren't available: Memory where there is no memory for them, and else Usage, as where one isn't UTF-8.
 fn status_without_words(kind: ErrorKind) -> Status
     ensures value { result ≡ status_without_words kind }
     ensures either { (result ≡ Status.Memory) ⊎ (result ≡ Status.Usage) }

@@ -1,4 +1,4 @@
-// What a run writes.
+//! What a run writes.
 ghost use Rattle.std.specs.Prelude.{◌≡◌, OnOk, IsErrOf};
 ghost use Rattle.std.specs.Io.KnownBytes.{Appends};
 ghost use Rattle.bfd_replay.specs.Written.{TookFront};
@@ -13,7 +13,7 @@ use std::alloc::Global;
 use std::sync::Wait;
 use std::thread::Threads;
 
-/// The status where the sink failed: a faulty line that wasn't told whole is still one.
+/// The status where the sink failed: a faulty line that wasn't reported whole is still one.
 fn broken_off(status: Status) -> Status
     ensures { result ≡ broken_off status }
 {

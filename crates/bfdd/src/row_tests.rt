@@ -208,7 +208,7 @@ const PAIRS: &[Row] = &[
     ),
 ];
 
-/// Packets for nobody, sessions of several kinds, and two peers at once.
+/// Packets for nobody, sessions of several kinds, and two peers in one script.
 const KINDS: &[Row] = &[
     // Packets for nobody.
     (

@@ -1,4 +1,4 @@
-// The top call.
+//! The top call.
 ghost use Rattle.std.specs.Prelude.{◌≡◌, ◌≢◌, ◌+◌, ◌⊎◌, ℕ, IfSome, None, Some, true, false, map, string_bytes};
 ghost use Rattle.std.specs.Io.KnownBytes.{Appends, IsAtEnd};
 ghost use Rattle.bfd_replay.specs.Written.{TookFront};
@@ -24,8 +24,8 @@ use std::thread::Threads;
 /// `sink`. Each turn of a replay's or of `serve`'s worker stands between two calls of `gate`.
 ///
 /// `replay` reads a packet file to its end and writes the report of its events. `watch` reads one too, and writes what happens to
-/// a link group. `serve` reads one without packets and ticks, takes packets from links that it opens from `ports` and ticks from
-/// `ticker`, and writes what came in and what came of it; it alone opens links, and shuts them in every case. `load` and `pair` read
+/// a link group. `serve` reads one without packets and ticks, receives packets from links that it opens from `ports` and ticks from
+/// `ticker`, and writes what came in and the result of it; it alone opens links, and shuts them in every case. `load` and `pair` read
 /// nothing: they write a line on a script, and on two peers, that numbers make. Everything else is `Usage`.
 pub fn run<
     R: Threads + Wait + Sync,
@@ -71,7 +71,7 @@ where
     ensures usage { job_of (map (λ word. string_bytes word) words.now) ≡ None → result ≡ Status.Usage }
     ensures usage_alone { result ≡ Status.Usage → job_of (map (λ word. string_bytes word) words.now) ≡ None }
 
-    // A faulty line is told, or a prefix of that where the sink failed.
+    // A faulty line is reported, or a prefix of that where the sink failed.
     ensures bad_text { OnBadLine result (λ bad. Appends (K.taken sink.old) (K.taken sink.new) (complaint_line bad)
         ⊎ (Rose (K.faults sink.old) (K.faults sink.new)
         × TookFront (K.taken sink.old) (K.taken sink.new) (complaint_line bad))) }
@@ -86,17 +86,17 @@ where
     ensures calm_source { result ≢ Status.ReadFault → S.faults source.new ≡ S.faults source.old }
 
     // And where that of the sink rose, it is WriteFault, or what it would have been without: BadLine, where the faulty line was
-    // being told, or a faulty end of `serve`, whose text was being written.
+    // being reported, or a faulty end of `serve`, whose text was being written.
     ensures calm_sink { UnlessWriting result (K.faults sink.new ≡ K.faults sink.old) }
 
-    // With an outside that doesn't fail, what is wanted comes, or memory ran out.
+    // With an outside that doesn't fail, what is required comes, or memory ran out.
     ensures complete { (is_reading (job_of (map (λ word. string_bytes word) words.now)) ≡ true
         → ¬ Rose (S.faults source.old) (S.faults source.new)) → ¬ Rose (K.faults sink.old) (K.faults sink.new)
         → IfSome (wanted (job_of (map (λ word. string_bytes word) words.now)) (S.left source.old))
         (λ w. (result ≡ w.status) ⊎ (result ≡ Status.Memory)) }
 
-    // Whether or not the source tells what it had: each status is one of the job's, and with every status but those of running out of
-    // memory and of a source that failed there is an answer of which the status and what was written are. It is what is wanted of some
+    // Whether or not the source reports what it had: each status is one of the job's, and with every status but those of running out of
+    // memory and of a source that failed there is an answer of which the status and what was written are. It is what is required of some
     // bytes that were read to the end of the source. A script that is served has one run: its engine and its histories, one per shard, give
     // the text, and each caller's entries, its sends and its end are those of what its link or the ticker gave. The status is the finish,
     // and shows its cause.

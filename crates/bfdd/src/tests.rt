@@ -1,4 +1,4 @@
-//! Runs over the outside of memory: how source and sink give, take and fail, and what is written then.
+//! Runs over the outside of memory: how source and sink give, accept and fail, and what is written then.
 ghost use Rattle.std.specs.Prelude.{◌≡◌, false, IfOk};
 ghost use Rattle.bfd_edge.specs.Links.{IsNewLink};
 ghost use Rattle.bfd_edge.specs.MemoryLink as memory_link;
@@ -94,7 +94,7 @@ fn words_of(alloc: Global, line: &[&str]) -> Result<Vec<String>, AllocError> {
 }
 
 /// One run: its words and its text, what the links of two workers hear, the ticks that come, how many bytes the source gives in a call
-/// and the sink takes, and the calls that fail. Then what must come of it: the status, what the sink has, and how many links are shut.
+/// and the sink accepts, and the calls that fail. Then what must be the result: the status, what the sink has, and how many links are shut.
 #[derive(Clone, Copy)]
 pub(crate) struct Case<'a> {
     pub(crate) words: &'a [&'a str],
@@ -144,7 +144,7 @@ pub(crate) struct Outcome {
 }
 
 impl Outcome {
-    /// Whether this came of the case, as it says: the status, and what was written.
+    /// Whether this is the result of the case, as it says: the status, and what was written.
     pub(crate) fn is_told(&self, case: &Case<'_>) -> bool {
         self.status == case.status && self.written.as_slice() == case.written.as_bytes()
     }
@@ -256,7 +256,7 @@ done 1 2 0
 /// By one worker the report is written as it comes.
 const BY_ONE: &[&str] = &["replay", "--shards", "2"];
 
-/// By two it is there before, in texts.
+/// By two it is complete before, in texts.
 const BY_TWO: &[&str] = &["replay", "--shards", "2", "--workers", "2"];
 
 /// A replay on two shards with a session each, to a sink of which a call may fail.

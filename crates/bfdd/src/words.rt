@@ -4,8 +4,8 @@
 //! options, each a name and its value, in any order and each at most once. `specs/Grammar.antt` is the grammar, as one function
 //! on the words' bytes. This module knows nothing of what a job does.
 //!
-//! It promises that `job_of` answers the job that the grammar gives, exactly where it gives one, that every number of a job is within its
-//! range (`IsJob`), and that no memory is taken.
+//! It promises that `job_of` answers the job that the grammar gives, if and only if it gives one, that every number of a job is within its
+//! range (`IsJob`), and that no memory is allocated.
 
 mod grammar;
 mod job;

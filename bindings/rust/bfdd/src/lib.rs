@@ -2,7 +2,7 @@
 //!
 //! The engine does no input, no output and no waiting: hand packets and ticks in, and send what comes out. After each event read
 //! [`Engine::outputs`] and, if it matters, [`Engine::answer`]; then sleep until [`Engine::due`] or until a packet comes.
-//! `docs/EMBEDDING.md` tells when to call what. Moments and intervals are microseconds, ticks milliseconds, since one start that the
+//! `docs/EMBEDDING.md` says when to call what. Moments and intervals are microseconds, ticks milliseconds, since one start that the
 //! caller chooses.
 //!
 //! ```
@@ -43,7 +43,7 @@ use std::net::IpAddr;
 #[derive(Clone, Copy, Debug, PartialEq, Eq)]
 #[non_exhaustive]
 pub enum Error {
-    /// There was no memory.
+    /// Out of memory.
     Memory,
     /// A value is outside its range.
     Range,
@@ -319,7 +319,7 @@ pub struct Shown {
     pub used_tx: u32,
     pub used_rx: u32,
     pub detect: u64,
-    /// The Poll Sequence: 0 none, 1 wanted, 2 running.
+    /// The Poll Sequence: 0 none, 1 requested, 2 running.
     pub poll: u8,
 }
 
@@ -392,7 +392,7 @@ impl Engine {
         done(unsafe { sys::bfdd_add(&mut self.handle, &session.to_c()) })
     }
 
-    /// A session leaves. Its peer is told nothing: for that disable it before.
+    /// A session leaves. Its peer is sent nothing: for that disable it before.
     pub fn remove(&mut self, discr: u32) -> Result<(), Error> {
         done(unsafe { sys::bfdd_remove(&mut self.handle, discr) })
     }
@@ -428,7 +428,7 @@ impl Engine {
         done(code)
     }
 
-    /// The clock has come to this millisecond.
+    /// The clock has reached this millisecond.
     pub fn tick(&mut self, ms: u64) -> Result<(), Error> {
         done(unsafe { sys::bfdd_tick(&mut self.handle, ms) })
     }

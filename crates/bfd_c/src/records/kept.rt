@@ -1,11 +1,10 @@
-//! What is kept of a session beside its variables.
+//! What is kept of a session alongside its variables.
 ghost use Rattle.std.specs.Prelude.{◌≡◌, ◌<◌, Some};
 ghost use Rattle.bfd_packet.specs.Layout.{fields_of};
 ghost use Rattle.bfd_c.specs.Records as keeping;
 
 use crate::naming::test_number;
 use bfd_packet::{Arrival, Port, State, Test};
-use bfd_rules::Out;
 use bfd_script::line::Line;
 use bfd_session::{Answer, SessionConfig};
 
@@ -29,11 +28,11 @@ pub enum Came {
     Control(u8),
 }
 
-/// What happened to a session since it was made. A count stays at 4,294,967,295 once it is there. Moments are in microseconds.
+/// What happened to a session since it was made. A count stays at 4,294,967,295 once it reaches that. Moments are in microseconds.
 #[derive(Clone, Copy)]
 pub struct Record {
     pub kind: Kind,
-    /// The diagnostic in the last control packet that it took.
+    /// The diagnostic in the last control packet that it accepted.
     pub peer_diag: u8,
     /// Packets that came to the session, those that it dropped too.
     pub received: u32,
@@ -44,7 +43,7 @@ pub struct Record {
     /// Changes of its state to Up, and to Down.
     pub ups: u32,
     pub downs: u32,
-    /// The moment of the last control packet that it took.
+    /// The moment of the last control packet that it accepted.
     pub heard: Option<u64>,
     /// The moment of the last change of its state.
     pub changed: Option<u64>,
@@ -97,17 +96,19 @@ fn note_state(kept: &mut Record, state: State)
     }
 }
 
-/// The session gave this output.
-pub(crate) fn note_output(kept: &mut Record, out: &Out, moment: u64)
-    ensures { kept.new ≡ keeping.gave out.now moment kept.old }
+/// The session sent a packet.
+pub(crate) fn note_sent(kept: &mut Record)
+    ensures { kept.new ≡ record kept.old { sent = keeping.one_counted kept.old.sent } }
 {
-    match out {
-        Out::Sent { .. } => kept.sent = one_counted(kept.sent),
-        Out::Changed { new, .. } => {
-            note_state(kept, *new);
-            kept.changed = Some(moment);
-        }
-    }
+    kept.sent = one_counted(kept.sent);
+}
+
+/// The session entered a state at this moment.
+pub(crate) fn note_change(kept: &mut Record, state: State, moment: u64)
+    ensures { kept.new ≡ record (keeping.entered state kept.old) { changed = Some moment } }
+{
+    note_state(kept, state);
+    kept.changed = Some(moment);
 }
 
 /// The diagnostic of a control packet.

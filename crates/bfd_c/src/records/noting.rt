@@ -4,7 +4,7 @@ ghost use Rattle.bfd_session.specs.Kinds.{configs_of};
 ghost use Rattle.bfd_session.specs.Rows.{Ascends, place_of as place_in};
 ghost use Rattle.bfd_c.specs.Records as keeping;
 
-use crate::records::kept::{Came, Record, note_answer, note_output};
+use crate::records::kept::{Came, Record, note_answer, note_change, note_sent};
 use bfd_instance::Instance;
 use bfd_rules::Out;
 use bfd_session::{Answer, Session};
@@ -61,8 +61,13 @@ fn note_given<W: Timers>(
     let Some(place) = place else {
         return;
     };
-    let moment = moment_at(instance, place);
-    note_output(&mut records[place as usize], out, moment);
+    match out {
+        Out::Sent { .. } => note_sent(&mut records[place as usize]),
+        Out::Changed { new, .. } => {
+            let moment = moment_at(instance, place);
+            note_change(&mut records[place as usize], *new, moment);
+        }
+    }
 }
 
 /// Whether the session at a place has this discriminator.
@@ -77,24 +82,24 @@ fn stands_at(sessions: &[Session], place: u32, discr: u32) -> bool
     }
 }
 
-/// The place of the session with this discriminator, if there is one. Outputs ascend by discriminator, so it mostly is the place of the
-/// output before, or the next.
+/// The place of the session with this discriminator, if there is one. Outputs ascend by discriminator, so it mostly is the place behind
+/// that of the output before, or that place.
 fn place_near<W: Timers>(instance: &Instance<W>, near: u32, discr: u32) -> Option<u32>
     ensures value { result ≡ place_in discr (configs_of instance.now.world.sessions) }
     ensures within { IfSome result (λ place. place < length instance.now.world.sessions) }
 {
     let sessions = instance.sessions();
-    if stands_at(sessions, near, discr) {
-        return Some(near);
-    }
     let next = near.saturating_add(1);
     if stands_at(sessions, next, discr) {
         return Some(next);
     }
+    if stands_at(sessions, near, discr) {
+        return Some(near);
+    }
     instance.place_of(discr)
 }
 
-/// Each output of the last event is told of the session that it names. The first is looked for at the place `near`.
+/// Each output of the last event is recorded for the session that it names. The first is looked for at the place `near`.
 pub(crate) fn note_all<W: Timers>(instance: &Instance<W>, near: u32, records: &mut Vec<Record>)
     requires { length records.old.items ≡ length instance.now.world.sessions }
     ensures { records.new.items ≡ keeping.all_given instance.now.world records.old.items instance.now.items }

@@ -89,7 +89,7 @@ impl<W: Timers> Recorded<W> {
     }
 
     /// One event, with the discriminator of the session to which it came; 0 where it came to none, to a reflector, or as a tick to all.
-    /// What it was answered and what it gave are told of the sessions that they name. Takes no memory.
+    /// Its answer and its outputs are recorded for the sessions that they name. Allocates no memory.
     pub fn happen_naming(&mut self, line: Line) -> (Answer, u32)
         ensures turn { turn_giving self.new.world self.new.items result.0 ≡ world.happens line self.old.world }
         ensures reached { result.1 ≡ world.discr_reached line self.old.world }

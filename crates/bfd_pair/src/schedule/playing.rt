@@ -32,14 +32,14 @@ fn given_in(event: &PairEvent, answer: &PairAnswer) -> u64
     }
 }
 
-/// Whether an output tells a change to Up.
+/// Whether an output is a change to Up.
 fn is_rise(item: &Out) -> bool
     ensures { result ≡ line.is_rise item.now }
 {
     matches!(item, Out::Changed { new: State::Up, .. })
 }
 
-/// How many changes to Up these outputs tell.
+/// How many of these outputs are changes to Up.
 fn rises(items: &[Out]) -> usize
     ensures rises { result ≡ count_by line.is_rise items.now }
     ensures most { result ≤ length items.now }

@@ -16,11 +16,12 @@ use crate::plan::runs::{Run, cut};
 use crate::plan::shrinking::next_of;
 use crate::report::{Numbered, Part, queue_event};
 use bfd_demux::{Addresses, Demux, Names, Row};
-use bfd_engine::{all_there, both, each};
+use bfd_engine::{all_there, each};
 use bfd_sbfd::Reflector;
 use bfd_script::line::Line;
 use bfd_session::{Answer, Roster, Table};
 use std::alloc::{AllocError, Global};
+use std::thread;
 use std::thread::Threads;
 
 /// As many empty queues, each with this room.
@@ -56,7 +57,7 @@ pub fn longest(queues: &Vec<Queue>) -> usize
     most
 }
 
-/// Takes in what the event of this number is.
+/// Adds what the event of this number is.
 fn take_in(
     queues: &mut Vec<Vec<Numbered>>,
     apart: &mut Part,
@@ -76,8 +77,8 @@ fn take_in(
     }
 }
 
-/// The queues and what is told apart of a run of lines. The queues get room for a shard's even share of the run's lines and a 64th of them
-/// more, which is a guess: shares differ, and a tick comes to every shard. Fails only when out of memory.
+/// The queues of a run of lines, and what is reported separately. The queues get room for a shard's even share of the run's lines and a
+/// 64th of them more, which is a guess: shares differ, and a tick goes to every shard. Fails only when out of memory.
 fn plan_run(
     alloc: Global,
     table: &Table,
@@ -119,7 +120,6 @@ fn plan_each<R: Threads + Sync>(
     let done = each(
         rt,
         alloc,
-        true,
         runs,
         &|run: Run|
             requires shards { (0 < shards) × (shards ≤ 64) }
@@ -131,19 +131,13 @@ fn plan_each<R: Threads + Sync>(
     Ok(plans)
 }
 
-/// The table of rows that have no fault, its two lists made in parallel or one after another. Fails only when out of memory.
-fn table_of_rows<R: Threads>(
-    rt: &R,
-    alloc: Global,
-    at_once: bool,
-    rows: Vec<Row>,
-) -> Result<Demux, AllocError>
+/// The table of rows that have no fault, its two lists made in parallel. Fails only when out of memory.
+fn table_of_rows<R: Threads>(rt: &R, alloc: Global, rows: Vec<Row>) -> Result<Demux, AllocError>
     requires { build_fault rows.items ≡ None }
     ensures { IfOk result (λ demux. demux ≡ rows.items) }
 {
-    let (names, addresses) = both(
+    let (names, addresses) = thread::join(
         rt,
-        at_once,
         || -> Result<Names, AllocError>
             requires { build_fault rows.items ≡ None }
             ensures { IfOk result (AreNames rows.items) }
@@ -158,8 +152,8 @@ fn table_of_rows<R: Threads>(
     Ok(Demux::of_lists(rows, names, addresses))
 }
 
-/// The table of rows that have no fault, and the lines in at most as many runs as there are workers: made in parallel where there are
-/// several workers. Fails only when out of memory.
+/// The table of rows that have no fault, and the lines in at most as many runs as there are workers: made in parallel. Fails only when out
+/// of memory.
 fn table_and_runs<R: Threads + Sync>(
     rt: &R,
     alloc: Global,
@@ -173,14 +167,12 @@ fn table_and_runs<R: Threads + Sync>(
     ensures demux { IfOk result (λ r. r.0 ≡ rows.items) }
     ensures runs { IfOk result (λ r. AreRuns events.items r.1.items) }
 {
-    let at_once = 1 < workers;
-    let (demux, runs) = both(
+    let (demux, runs) = thread::join(
         rt,
-        at_once,
         move || -> Result<Demux, AllocError>
             requires { build_fault rows.items ≡ None }
             ensures { IfOk result (λ demux. demux ≡ rows.items) }
-        { table_of_rows(rt, alloc, at_once, rows) },
+        { table_of_rows(rt, alloc, rows) },
         move || -> Result<Vec<Run>, AllocError>
             requires { (0 < workers) × (length events.items ≤ 200000) }
             ensures { IfOk result (λ runs. AreRuns events.items runs.items) }
@@ -196,14 +188,14 @@ pub struct Plan {
     pub table: Table,
     /// The queue of each shard, in pieces.
     pub queues: Vec<Queue>,
-    /// What is told of the events of no session.
+    /// What is reported of the events that match no session.
     pub apart: Part,
 }
 
-/// What a replay on an engine begins with, by the rows of the sessions and the pool: their table, the queue of each shard, and what is told
-/// of the events of no session. With several workers the table is built, its two lists in parallel, while the lines are cut into runs, one
-/// for each worker or fewer, and the runs are planned in parallel; with one all is done one after another. Then the runs' queues and what
-/// they tell are put one behind another. Fails only when out of memory.
+/// What a replay on an engine begins with, by the rows of the sessions and the pool: their table, the queue of each shard, and what is
+/// reported of the events that match no session. The table is built, its two lists in parallel, while the lines are cut into runs, one for
+/// each worker or fewer, and the runs are planned in parallel. Then the runs' queues and what they report are put one behind another. Fails
+/// only when out of memory.
 pub fn planned<R: Threads + Sync>(
     rt: &R,
     alloc: Global,

@@ -18,7 +18,7 @@ use bfd_shard::ShardEvent;
 /// What a line is to the sessions.
 #[derive(Drop)]
 pub enum Route {
-    /// An event of no session, which has this answer.
+    /// An event that matches no session, with this answer.
     Rests(Answer),
     /// A packet for a reflector, which sends this answer.
     Answers(Out),
@@ -59,7 +59,7 @@ fn asked(table: &Table, moment: Moment, discr: u32, event: Event) -> Route
     }
 }
 
-/// What a line of a script is to the sessions and reflectors of this table: an event of no session, or one of theirs, which they
+/// What a line of a script is to the sessions and reflectors of this table: an event that matches no session, or one of theirs, which they
 /// may be given.
 pub fn route_of(table: &Table, line: Line) -> Route
     ensures route { route_is result ≡ happening table.now.configs table.now.pool line }

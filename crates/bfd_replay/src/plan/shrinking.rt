@@ -13,7 +13,7 @@ fn give_back<T: Drop>(left: &mut Vec<T>)
     }
 }
 
-/// Takes the first element of a list that is kept in reverse. The list gives memory back on its way: what is made of its
+/// Takes the first element of a list that is kept in reverse. The list gives memory back on its way: what is built from its
 /// elements needs it.
 pub fn next_of<T: Drop>(left: &mut Vec<T>) -> Option<T>
     ensures first { IfSome result (λ element. reverse left.old.items ≡ element ∷ reverse left.new.items) }

@@ -39,7 +39,7 @@ fn in_two<R: Threads>(
     Ok((front?, back?))
 }
 
-/// Texts that stand one behind another, and how many packets they tell were sent and were dropped.
+/// Texts that stand one behind another, and how many packets they report as sent and as dropped.
 #[derive(Drop)]
 struct Texts {
     texts: Vec<Vec<u8>>,
@@ -47,7 +47,7 @@ struct Texts {
     drops: u64,
 }
 
-/// Puts a text behind the others, and adds to these counts the packets that it tells. Fails only when out of memory, or when 2^64 packets
+/// Puts a text behind the others, and adds to these counts the packets that it reports. Fails only when out of memory, or when 2^64 packets
 /// were counted, which it reports as out of memory.
 fn put_behind(
     texts: &mut Vec<Vec<u8>>,
@@ -124,8 +124,8 @@ fn in_four<R: Threads>(rt: &R, alloc: Global, rests: Vec<Rest>) -> Result<Texts,
 }
 
 /// The report of a replay of so many events, as `report` gives it, in texts that stand one behind another. Up to four threads gather it,
-/// each a part of its lines, if they are available. Its counts come too. Fails only when out of memory, or when 2^64 packets were sent or dropped, which it
-/// reports as out of memory.
+/// each a part of its lines, if they are available. Its counts come too. Fails only when out of memory, or when 2^64 packets were sent or
+/// dropped, which it reports as out of memory.
 pub fn report_at_once<R: Threads>(
     rt: &R,
     alloc: Global,

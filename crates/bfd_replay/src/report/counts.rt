@@ -1,4 +1,4 @@
-//! What outputs name, and how many packets outputs and answers tell of.
+//! What outputs name, and how many packets outputs and answers report.
 ghost use Rattle.std.specs.Prelude.{◌≡◌, ◌≤◌, ◌+◌, IfOk, length, sum_by};
 ghost use Rattle.bfd_rules.specs.Names as names;
 ghost use Rattle.bfd_script.specs.Report.{packets_sent_by, dropped_by};
@@ -25,7 +25,7 @@ pub(crate) fn named(out: &Out) -> u32
     }
 }
 
-/// How many packets an output tells of.
+/// How many packets an output sends.
 pub(crate) fn packets(out: &Out) -> u64
     ensures value { result ≡ packets_sent_by out.now }
     ensures few { result ≤ 1 }
@@ -36,7 +36,7 @@ pub(crate) fn packets(out: &Out) -> u64
     }
 }
 
-/// How many packets the outputs tell of.
+/// How many packets the outputs send.
 pub fn sent(outs: &[Out]) -> u64
     ensures value { result ≡ sum_by packets_sent_by outs.now }
     ensures few { result ≤ length outs.now }

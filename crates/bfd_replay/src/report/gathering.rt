@@ -56,7 +56,7 @@ fn room_of(rests: &Vec<Rest>) -> usize {
 }
 
 /// Takes all pieces off, which have these heads, in the order of a report: by event, and then by discriminator. Appends their text, and
-/// gives how many packets they tell were sent and were dropped. Fails only when out of memory.
+/// gives how many packets they report as sent and as dropped. Fails only when out of memory.
 fn gather(
     heads: &mut [Option<u64>],
     rests: &mut Vec<Rest>,
@@ -82,7 +82,7 @@ fn gather(
     Ok((txs, drops))
 }
 
-/// What parts tell, gathered.
+/// What parts report, gathered.
 #[derive(Drop)]
 pub struct Gathered {
     pub text: Vec<u8>,

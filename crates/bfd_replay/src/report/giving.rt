@@ -14,7 +14,7 @@ use crate::report::rest::Rest;
 use bfd_edge::{Fault, Sink};
 use std::alloc::{AllocError, Global};
 
-/// Takes the first piece off, appends its text, and adds to these counts the packets that it tells were sent and were dropped. Fails only
+/// Takes the first piece off, appends its text, and adds to these counts the packets that it reports as sent and as dropped. Fails only
 /// when out of memory, or when 2^64 packets were counted, which it reports as out of memory.
 fn take_counted(
     rest: &mut Rest,
@@ -31,8 +31,8 @@ fn take_counted(
     added(counts, more)
 }
 
-/// Takes all pieces off, which have these heads, in the order of a report. Appends their text, which the sink takes where it is long, and
-/// gives how many packets they tell were sent and were dropped. It is refused as Failed where the sink failed, and as Memory when out of
+/// Takes all pieces off, which have these heads, in the order of a report. Appends their text, which the sink accepts where it is long,
+/// and gives how many packets they report as sent and as dropped. It is refused as Failed where the sink failed, and as Memory when out of
 /// memory, here or in the sink, or at 2^64 packets.
 fn give<K: Sink>(
     heads: &mut [Option<u64>],
@@ -66,8 +66,8 @@ fn give<K: Sink>(
     Ok(counts)
 }
 
-/// Takes all pieces off a part, appends their text, which the sink takes where it is long, and gives how many packets they tell were sent
-/// and were dropped. It is refused as Failed where the sink failed, and as Memory when out of memory, here or in the sink.
+/// Takes all pieces off a part, appends their text, which the sink accepts where it is long, and gives how many packets they report as
+/// sent and as dropped. It is refused as Failed where the sink failed, and as Memory when out of memory, here or in the sink.
 fn give_sole<K: Sink>(
     part: &mut Part,
     text: &mut Vec<u8>,
@@ -88,7 +88,7 @@ fn give_sole<K: Sink>(
     Ok(counts)
 }
 
-/// The same as `give`, of parts; the text of a part that has all pieces is given at once.
+/// The same as `give`, of parts; the text of a part that has all pieces is given as a whole.
 pub(crate) fn give_all<K: Sink>(
     alloc: Global,
     parts: &mut Vec<Part>,

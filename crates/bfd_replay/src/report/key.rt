@@ -9,7 +9,7 @@ pub(crate) struct Key {
     pub(crate) discr: u32,
 }
 
-/// A piece of a part: its key, how many bytes of text it has, and how many packets it tells were sent and were dropped. A
+/// A piece of a part: its key, how many bytes of text it has, and how many packets it reports as sent and as dropped. A
 /// replay has one for each packet that comes and each that is sent, so it is kept in 16 bytes.
 #[derive(Clone, Copy)]
 pub(crate) struct Mark {
@@ -22,7 +22,7 @@ pub(crate) struct Mark {
 
 impl Mark {
     /// The mark of a piece, or none only where its event's number is 2^32 or more, its text has 4 GiB or more, or the packets
-    /// that it tells were sent, or those that were dropped, are 2^16 or more.
+    /// that it reports as sent, or those that it reports as dropped, are 2^16 or more.
     pub(crate) fn of(key: Key, long: usize, txs: u64, drops: u64) -> Option<Mark>
         ensures mark { IfSome result (λ mark. mark ≡ inside.mark key long txs drops) }
         ensures none { IfNone result ((2 ^ 32 ≤ key.event) ⊎ ((2 ^ 32 ≤ long) ⊎ ((2 ^ 16 ≤ txs) ⊎ (2 ^ 16 ≤ drops)))) }
@@ -51,7 +51,7 @@ impl Mark {
         self.long as usize
     }
 
-    /// How many packets it tells were sent, and were dropped.
+    /// How many packets it reports as sent, and as dropped.
     pub(crate) fn counts(self) -> (u64, u64)
         ensures txs { result.0 ≡ self.txs }
         ensures drops { result.1 ≡ self.drops }

@@ -44,9 +44,9 @@ pub fn dealing_laws()
         ≡ queue shards shard number events ++ queue shards shard (number + length events) others }
 {}
 
-/// Laws of what shards tell, and no work. One event more of a shard's queue adds the pieces of what it gives, of the sessions
-/// that the events before it left; an event of no session adds its one piece to the part of those; what is told of those among
-/// events behind others stands behind what is told of theirs; and of a table whose sessions ascend by discriminator, the parts of
+/// Laws of what shards report, and no work. One event more of a shard's queue adds the pieces of what it gives, of the sessions
+/// that the events before it left; an event that matches no session adds its one piece to the part of those; what is reported of those
+/// among events behind others stands behind what is reported of theirs; and of a table whose sessions ascend by discriminator, the parts of
 /// any number of shards, taken in the order of a report, are the pieces of the whole table.
 #[tactic(auto, using(crate::proofs::Histories::told_runs, crate::proofs::Histories::apart_more, crate::proofs::Histories::among_more, crate::proofs::Histories::apart_append, crate::proofs::Whole::parts_gathered))]
 pub fn telling_laws()

@@ -10,8 +10,8 @@ use bfd_edge::{Fault, Sink};
 /// How long a text gets before it is written.
 const PIECE: usize = 65_536;
 
-/// Writes the whole text. It is refused as Failed where the sink failed or took nothing of what is left, and as Memory where the sink had
-/// none; the sink took a prefix of the text then.
+/// Writes the whole text. It is refused as Failed where the sink failed or accepted nothing of what is left, and as Memory where the sink
+/// had none; the sink accepted a prefix of the text then.
 pub fn write_all<K: Sink>(sink: &mut K, text: &[u8]) -> Result<(), Fault>
     ensures whole { OnOk result (Appends (K.taken sink.old) (K.taken sink.new) text.now) }
     ensures failed { IsErrOf result Fault.Failed → Rose (K.faults sink.old) (K.faults sink.new) }
@@ -31,7 +31,7 @@ pub fn write_all<K: Sink>(sink: &mut K, text: &[u8]) -> Result<(), Fault>
     Ok(())
 }
 
-/// Writes the texts, one behind another. It is refused as `write_all` is; the sink took a prefix of them then.
+/// Writes the texts, one behind another. It is refused as `write_all` is; the sink accepted a prefix of them then.
 pub fn write_each<K: Sink>(sink: &mut K, texts: &[Vec<u8>]) -> Result<(), Fault>
     ensures whole { OnOk result (Appends (K.taken sink.old) (K.taken sink.new) (flat_map (λ text. text.items) texts.now)) }
     ensures front { TookFront (K.taken sink.old) (K.taken sink.new) (flat_map (λ text. text.items) texts.now) }
@@ -44,8 +44,8 @@ pub fn write_each<K: Sink>(sink: &mut K, texts: &[Vec<u8>]) -> Result<(), Fault>
     Ok(())
 }
 
-/// Writes the text where it is long, and begins it anew: less than 64 KiB of it is left. It is refused as `write_all` is; the sink took a
-/// prefix of the text then, and the text is as it was.
+/// Writes the text where it is long, and begins it anew: less than 64 KiB of it is left. It is refused as `write_all` is; the sink
+/// accepted a prefix of the text then, and the text is as it was.
 pub fn give_on<K: Sink>(text: &mut Vec<u8>, sink: &mut K) -> Result<(), Fault>
     ensures text { OnOk result (TookUpTo (K.taken sink.old) (K.taken sink.new) text.old.items text.new.items) }
     ensures short { OnOk result (length text.new.items < 65536) }

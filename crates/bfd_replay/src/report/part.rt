@@ -1,4 +1,4 @@
-//! What one shard tells of its events.
+//! What one shard reports of its events.
 ghost use Rattle.std.specs.Prelude.{◌≡◌, ◌<◌, ◌≤◌, ◌+◌, ◌++◌, ◌∷◌, [], ◌^◌, ◌⊎◌, IfNone, IfOk, IfSome, OnErr, OnOk, decimal, length, map, sum_by};
 ghost use Rattle.std.specs.List.{AllByRecursion};
 ghost use Rattle.bfd_script.specs.Report.{item_line};
@@ -16,7 +16,7 @@ use std::alloc::{AllocError, Global};
 use std::marker::Model;
 use std::mem;
 
-/// What one shard tells of its events, or what is told of the events of no session: text in pieces. Its value is the pieces.
+/// What one shard reports of its events, or what is reported of the events that match no session: text in pieces. Its value is the pieces.
 #[derive(Drop)]
 pub struct Part {
     text: Vec<u8>,
@@ -187,7 +187,7 @@ fn append_all(
     Ok(())
 }
 
-/// For how many bytes of text, and for how many pieces, a part makes room for each event that it will tell, and for how many events at
+/// For how many bytes of text, and for how many pieces, a part makes room for each event that it will report, and for how many events at
 /// most: guesses.
 const BYTES_AN_EVENT: usize = 320;
 
@@ -206,7 +206,7 @@ fn roomy<T>(alloc: Global, room: usize) -> Vec<T>
 }
 
 impl Part {
-    /// A part that tells nothing.
+    /// A part that reports nothing.
     pub fn new(alloc: Global) -> Part
         ensures { result ≡ [] }
     {
@@ -216,8 +216,8 @@ impl Part {
         }
     }
 
-    /// The same, with room for what so many events may tell, up to a bound, where there is memory for it: a list that grows by and by
-    /// is moved again and again.
+    /// The same, with room for what so many events may report, up to a bound, if memory is available: a list that grows in small steps is
+    /// moved many times.
     pub fn with_room(alloc: Global, events: usize) -> Part
         ensures { result ≡ [] }
     {
@@ -228,8 +228,8 @@ impl Part {
         }
     }
 
-    /// Tells all that an event of one session, or of none, gave. `number` is the event's in the replay. Fails only when out of memory, at 4
-    /// GiB of text for one event, at 2^16 packets that it sent or dropped, or at a number of 2^32 or more; then the part is as before.
+    /// Reports all that an event of one session, or of none, gave. `number` is the event's in the replay. Fails only when out of memory, at
+    /// 4 GiB of text for one event, at 2^16 packets that it sent or dropped, or at a number of 2^32 or more; then the part is as before.
     pub fn tell_event(
         &mut self,
         number: u64,
@@ -243,8 +243,8 @@ impl Part {
         append_event(&mut self.marks, &mut self.text, number, outs, answer)
     }
 
-    /// Tells what a tick put out, one piece for each output. `number` is the tick's in the replay. Fails only when out of memory or when a
-    /// number is 2^32 or more; then the part is as before.
+    /// Reports what a tick emitted, one piece for each output. `number` is the tick's in the replay. Fails only when out of memory or when
+    /// a number is 2^32 or more; then the part is as before.
     pub fn tell_tick(&mut self, number: u64, outs: &[Out]) -> Result<(), AllocError>
         ensures told { OnOk result (self.new ≡ self.old ++ map (item_piece number) outs.now) }
         ensures same { OnErr result (self.new ≡ self.old) }
@@ -252,7 +252,7 @@ impl Part {
         append_items(&mut self.marks, &mut self.text, number, outs)
     }
 
-    /// Tells behind what it told so far all that another part tells. Fails only when out of memory, and then the part is as before.
+    /// Appends to what it reported so far all that another part reports. Fails only when out of memory, and then the part is as before.
     pub fn append(&mut self, other: &Part) -> Result<(), AllocError>
         ensures told { OnOk result (self.new ≡ self.old ++ other.now) }
         ensures same { OnErr result (self.new ≡ self.old) }
@@ -270,7 +270,7 @@ impl Part {
         }
     }
 
-    /// Takes all pieces off, appends their text, and gives how many packets they tell were sent and were dropped. Behind no text its own is
+    /// Takes all pieces off, appends their text, and gives how many packets they report as sent and as dropped. Behind no text its own is
     /// handed over as it lies. Fails only when out of memory.
     pub(crate) fn take_all(&mut self, text: &mut Vec<u8>) -> Result<(u64, u64), AllocError>
         ensures rest { OnOk result (self.new ≡ []) }

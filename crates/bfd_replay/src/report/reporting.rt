@@ -25,7 +25,7 @@ pub(crate) fn done_text(
 }
 
 /// Writes what is left of a report's text, and its last line behind it. It is refused as Failed where the sink failed, and as Memory when
-/// out of memory, here or in the sink; the sink took a prefix then.
+/// out of memory, here or in the sink; the sink accepted a prefix then.
 pub fn write_last<K: Sink>(
     alloc: Global,
     text: Vec<u8>,

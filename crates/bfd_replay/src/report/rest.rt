@@ -45,7 +45,7 @@ impl<'a> Rest<'a> {
         }
     }
 
-    /// Takes the first piece off, appends its text, and gives how many packets it tells were sent and were dropped. Fails only when out of
+    /// Takes the first piece off, appends its text, and gives how many packets it reports as sent and as dropped. Fails only when out of
     /// memory, and then all is as before.
     pub(crate) fn take(&mut self, text: &mut Vec<u8>) -> Result<(u64, u64), AllocError>
         requires { 0 < length self.old }

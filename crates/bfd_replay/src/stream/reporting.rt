@@ -19,6 +19,7 @@ ghost use Rattle.bfd_replay.specs.Replayed.{HasTotals, HaveReplayed, taker_of};
 ghost use Rattle.bfd_replay.specs.Telling.{HasBrought, HasStopCause, HasToldEvent, HasToldFront, IsClosedAfter, IsEventStop, IsMeant, IsStop, ToldUpTo, reason_of, outcomes_on};
 ghost use Rattle.bfd_replay.specs.Turning.{AllSole, HasKept, IsOfOne, Went, brought};
 ghost use Rattle.bfd_replay.specs.Written.{TookFront};
+ghost use Rattle.bfd_num.specs.Counting.{IsBlankOf};
 
 use crate::counting::{Replayed, up_all};
 use crate::plan::next_of;
@@ -41,7 +42,7 @@ use std::snapshot::Snapshot;
 use std::sync::Wait;
 use std::sync::ledger::{Blank, Ledger};
 
-/// A tick of several shards: what their parts tell of it is told, and a long text goes to the sink.
+/// A tick of several shards: what their parts report of it is appended, and a long text goes to the sink.
 fn tell_parts<W: Timers, R: Wait, G: Gate, K: Sink, L: Ledger>(
     rt: &R,
     alloc: Global,
@@ -86,7 +87,7 @@ fn tell_parts<W: Timers, R: Wait, G: Gate, K: Sink, L: Ledger>(
     }
 }
 
-/// Any other line, or a tick of one shard: it happens, what it gave is told, and a long text goes to the sink.
+/// Any other line, or a tick of one shard: it happens, what it gave is reported, and a long text goes to the sink.
 fn tell_one<W: Timers, R: Wait, G: Gate, K: Sink, L: Ledger>(
     rt: &R,
     engine: &Engine<W>,
@@ -124,10 +125,7 @@ fn tell_one<W: Timers, R: Wait, G: Gate, K: Sink, L: Ledger>(
         Ok(answer) => answer,
         Err(fault) => return Err(Stop::Refused(fault)),
     };
-    let Ok(()) = told.tell(outs, &answer) else {
-        return Err(Stop::Unwritten(Fault::Memory));
-    };
-    match told.give_on(sink) {
+    match told.tell(outs, &answer, sink) {
         Ok(()) => Ok(()),
         Err(fault) => Err(Stop::Unwritten(fault)),
     }
@@ -136,7 +134,8 @@ fn tell_one<W: Timers, R: Wait, G: Gate, K: Sink, L: Ledger>(
 /// The tick that a line is, if several shards have it.
 fn shared_tick(line: &Line, shards: u32) -> Option<Tick>
     ensures some { IfSome result (λ tick. line.now ≡ TickLine tick) }
-    ensures none { IfNone result ((configs : List SessionConfig) (pool : List Reflector) → IsOfOne shards (happening configs pool line.now)) }
+    ensures none { IfNone result ((configs : List SessionConfig) (pool : List Reflector) → IsOfOne shards (happening configs pool
+        line.now)) }
 {
     match line {
         Line::Tick(tick) if shards != 1 => Some(*tick),
@@ -185,7 +184,7 @@ fn tell_line<W: Timers, R: Wait, G: Gate, K: Sink, L: Ledger>(
     }
 }
 
-/// Tells the lines of a script one by one; `told` keeps what isn't written yet. Their list frees its memory while the journal grows.
+/// Reports the lines of a script one by one; `told` keeps what isn't written yet. Their list frees its memory while the journal grows.
 fn tell_lines<W: Timers, R: Wait, G: Gate, K: Sink, L: Ledger>(
     rt: &R,
     alloc: Global,
@@ -205,14 +204,13 @@ fn tell_lines<W: Timers, R: Wait, G: Gate, K: Sink, L: Ledger>(
     requires few { length events.items ≤ 200000 }
     requires none { told.old.events ≡ 0 }
     requires room { (shard : ℕ) → 5 * length (configs_at engine.now shard) + 5 ≤ outs.room }
-    requires name { blank.name ≡ L.name }
-    requires parts { blank.parts ≡ L.parts }
-    requires some { 0 < blank.parts }
+    requires blank { IsBlankOf L.name L.parts blank.name blank.parts }
     ensures of { IsOf engine.now pass.new.1 }
     ensures there { AllThere pass.new.1 }
     ensures kept { HasKept (length events.items) pass.old pass.new }
     ensures brought { OnOk result (HasBrought engine.now (happenings engine.now.configs engine.now.pool events.items) pass.new) }
-    ensures told { OnOk result (AllSole (length engine.now.locks) pass.new → ToldUpTo (K.taken sink.old) (K.taken sink.new) told.old told.new
+    ensures told { OnOk result (AllSole (length engine.now.locks) pass.new → ToldUpTo (K.taken sink.old) (K.taken sink.new) told.old
+        told.new
         (outcomes_on engine.now (happenings engine.now.configs engine.now.pool events.items)) []) }
     ensures front { AllSole (length engine.now.locks) pass.new → TookFront (K.taken sink.old) (K.taken sink.new) (told.old.text
         ++ lines_from (told.old.events + 1) (outcomes_on engine.now (happenings engine.now.configs engine.now.pool events.items))) }
@@ -302,8 +300,8 @@ fn tell_all<W: Timers, R: Wait, G: Gate, K: Sink>(
 
 /// Replays the script on 1 to 64 shards, in the caller's thread, and writes its report to the sink as it comes. Each turn for event N
 /// stands between `gate.before(0, N)` and `gate.after(0, N)`. It is refused as Failed where the sink failed, and as Memory when out of
-/// memory, here or in the sink, or at 2^64 packets sent or dropped; the sink took a prefix of the report then. Its counts come back, and
-/// for clauses what the closed shards were. It may wait.
+/// memory, here or in the sink, or at 2^64 packets sent or dropped; the sink accepted a prefix of the report then. Its counts come back,
+/// and for clauses what the closed shards were. It may wait.
 pub(crate) fn report_to<W: Timers, R: Wait, G: Gate, K: Sink>(
     rt: &R,
     alloc: Global,

@@ -1,4 +1,4 @@
-//! What was told so far.
+//! What was reported so far.
 ghost use Rattle.std.specs.Prelude.{◌≡◌, ◌<◌, ◌+◌, ◌++◌, [], IfOk, List, OnOk, sum_by};
 ghost use Rattle.std.specs.Io.KnownBytes.{Appends};
 ghost use Rattle.bfd_edge.specs.Faults.{HasCause};
@@ -24,7 +24,7 @@ pub(crate) enum Stop {
     Unwritten(Fault),
 }
 
-/// The lines that are not written yet, and how many events were told, with how many packets that were sent and were dropped in
+/// The lines that are not written yet, and how many events were reported, with how many packets that were sent and were dropped in
 /// them.
 #[derive(Drop)]
 pub(crate) struct Told {
@@ -42,8 +42,29 @@ impl Model for Told {
     ghost view = { λ t. record { text = t.text.items; events = t.events; txs = t.txs; drops = t.drops } };
 }
 
+/// Appends the lines of an event, and writes the text if it is long, which then begins anew.
+fn write_event<K: Sink>(
+    number: u64,
+    outs: &Outs,
+    answer: &Answer,
+    text: &mut Vec<u8>,
+    sink: &mut K,
+) -> Result<(), Fault>
+    ensures text { OnOk result (TookUpTo (K.taken sink.old) (K.taken sink.new) (text.old.items
+        ++ event_lines number (record { items = outs.now.items; answer = answer.now })) text.new.items) }
+    ensures front { TookFront (K.taken sink.old) (K.taken sink.new) (text.old.items
+        ++ event_lines number (record { items = outs.now.items; answer = answer.now })) }
+    ensures cause { HasCause (K.faults sink.old) (K.faults sink.new) result }
+    ensures calm { OnOk result (K.faults sink.new ≡ K.faults sink.old) }
+{
+    match lines(number, outs.items(), answer, text) {
+        Ok(()) => give_on(text, sink),
+        Err(_) => Err(Fault::Memory),
+    }
+}
+
 impl Told {
-    /// Nothing was told.
+    /// Nothing was reported.
     pub(crate) fn new(alloc: Global) -> Told
         ensures { result ≡ record { text = []; events = 0; txs = 0; drops = 0 } }
     {
@@ -63,18 +84,35 @@ impl Told {
         self.events + 1
     }
 
-    /// Tells what the next event gave. Fails only when out of memory, or at 2^64 packets sent or dropped.
-    pub(crate) fn tell(&mut self, outs: &Outs, answer: &Answer) -> Result<(), AllocError>
+    /// Reports what the next event gave, and writes the text if it is long; for a sink that nobody reads no text is made. Refused as Failed
+    /// if the sink failed, and as Memory when out of memory, here or in the sink, or at 2^64 packets sent or dropped.
+    pub(crate) fn tell<K: Sink>(
+        &mut self,
+        outs: &Outs,
+        answer: &Answer,
+        sink: &mut K,
+    ) -> Result<(), Fault>
         requires few { self.old.events < 200000 }
-        ensures text { OnOk result (self.new.text ≡ self.old.text
-            ++ event_lines (self.old.events + 1) (record { items = outs.now.items; answer = answer.now })) }
+        ensures text { OnOk result (TookUpTo (K.taken sink.old) (K.taken sink.new) (self.old.text
+            ++ event_lines (self.old.events + 1) (record { items = outs.now.items; answer = answer.now })) self.new.text) }
         ensures events { OnOk result (self.new.events ≡ self.old.events + 1) }
         ensures txs { OnOk result (self.new.txs ≡ self.old.txs + sum_by packets_sent_by outs.now.items) }
         ensures drops { OnOk result (self.new.drops ≡ self.old.drops + dropped_by answer.now) }
+        ensures front { TookFront (K.taken sink.old) (K.taken sink.new) (self.old.text
+            ++ event_lines (self.old.events + 1) (record { items = outs.now.items; answer = answer.now })) }
+        ensures cause { HasCause (K.faults sink.old) (K.faults sink.new) result }
+        ensures calm { OnOk result (K.faults sink.new ≡ K.faults sink.old) }
     {
-        let items = outs.items();
-        lines(self.number(), items, answer, &mut self.text)?;
-        self.count((sent(items), dropped(answer)))
+        let number = self.number();
+        let Ok(()) = self.count((sent(outs.items()), dropped(answer))) else {
+            return Err(Fault::Memory);
+        };
+        if sink.is_read() {
+            write_event(number, outs, answer, &mut self.text, sink)
+        } else {
+            self.text.clear();
+            Ok(())
+        }
     }
 
     /// One event more, with so many packets that were sent and were dropped. Fails only at 2^64 of them, which it reports as out of memory.
@@ -92,8 +130,8 @@ impl Told {
         Ok(())
     }
 
-    /// Tells what the next event gave, of which each shard has told its part, and writes the text where it is long. It is refused as Failed
-    /// where the sink failed, and as Memory when out of memory, here or in the sink, or at 2^64 packets sent or dropped.
+    /// Reports what the next event gave, of which each shard has reported its part, and writes the text where it is long. It is refused as
+    /// Failed where the sink failed, and as Memory when out of memory, here or in the sink, or at 2^64 packets sent or dropped.
     pub(crate) fn gather<K: Sink>(
         &mut self,
         alloc: Global,
@@ -119,19 +157,6 @@ impl Told {
             Ok(()) => Ok(()),
             Err(_) => Err(Fault::Memory),
         }
-    }
-
-    /// Writes the text where it is long, and begins it anew.
-    pub(crate) fn give_on<K: Sink>(&mut self, sink: &mut K) -> Result<(), Fault>
-        ensures text { OnOk result (TookUpTo (K.taken sink.old) (K.taken sink.new) self.old.text self.new.text) }
-        ensures events { self.new.events ≡ self.old.events }
-        ensures txs { self.new.txs ≡ self.old.txs }
-        ensures drops { self.new.drops ≡ self.old.drops }
-        ensures front { TookFront (K.taken sink.old) (K.taken sink.new) self.old.text }
-        ensures cause { HasCause (K.faults sink.old) (K.faults sink.new) result }
-        ensures calm { OnOk result (K.faults sink.new ≡ K.faults sink.old) }
-    {
-        give_on(&mut self.text, sink)
     }
 
     /// Writes what is left of the text, and the last line of the report behind it: the counts.

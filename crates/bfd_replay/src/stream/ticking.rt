@@ -1,4 +1,4 @@
-//! A tick on several shards, told.
+//! A tick on several shards, reported.
 ghost use Rattle.std.specs.Prelude.{ℕ, ◌≡◌, ◌≤◌, ◌<◌, ◌+◌, ◌*◌, [], ◌∷◌, IfErr, IfOk, OnOk, length, slice_index_or};
 ghost use Rattle.bfd_shard.specs.declared.entry.ShardEvent.TheVariants.{Tick as TickEvent};
 ghost use Rattle.bfd_engine.specs.Engines.{IsOf, AllThere, configs_at};
@@ -16,7 +16,7 @@ use std::alloc::Global;
 use std::sync::Wait;
 use std::sync::ledger::Ledger;
 
-/// A tick of every shard: what each tells of it, and behind them an empty part, since nothing is told of no session.
+/// A tick of every shard: what each reports of it, and behind them an empty part, that of the events that match no session.
 pub(super) fn tick_parts<W: Timers, R: Wait, G: Gate, L: Ledger>(
     rt: &R,
     alloc: Global,

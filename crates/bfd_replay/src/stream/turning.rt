@@ -22,7 +22,7 @@ use bfd_wheel::Timers;
 use std::sync::Wait;
 use std::sync::ledger::Ledger;
 
-/// A turn of a shard, between the gate's two calls. What was put out before goes.
+/// A turn of a shard, between the gate's two calls. What was emitted before is dropped.
 pub(super) fn turn<W: Timers, R: Wait, G: Gate, L: Ledger>(
     rt: &R,
     engine: &Engine<W>,

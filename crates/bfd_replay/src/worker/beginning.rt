@@ -1,4 +1,4 @@
-//! Shards and plan of a replay, made in parallel or one after another.
+//! Shards and plan of a replay, made in parallel.
 ghost use Rattle.std.specs.Prelude.{◌≡◌, ◌≤◌, ◌<◌, IfOk, length};
 ghost use Rattle.bfd_engine.specs.Opening.{AreNewStates, MayOpen};
 ghost use Rattle.bfd_session.specs.Rows.{table_of as table_in};
@@ -7,30 +7,28 @@ ghost use Rattle.bfd_replay.specs.Beginning.{IsBeginning};
 
 use crate::plan::{Plan, planned};
 use bfd_demux::Row;
-use bfd_engine::{both, make_shards};
+use bfd_engine::make_shards;
 use bfd_sbfd::Reflector;
 use bfd_script::line::Line;
 use bfd_session::{Roster, SessionConfig, table_of};
 use bfd_shard::ShardState;
 use bfd_wheel::Timers;
 use std::alloc::{AllocError, Global};
+use std::thread;
 use std::thread::Threads;
 
-/// The roster of the sessions and the rows of the sessions and the pool, made in parallel or one after another. Fails only when out of
-/// memory.
+/// The roster of the sessions and the rows of the sessions and the pool, made in parallel. Fails only when out of memory.
 fn roster_and_rows<R: Threads + Sync>(
     rt: &R,
     alloc: Global,
-    at_once: bool,
     configs: &Vec<SessionConfig>,
     pool: &Vec<Reflector>,
 ) -> Result<(Roster, Vec<Row>), AllocError>
     ensures roster { IfOk result (λ r. r.0 ≡ configs.now.items) }
     ensures rows { IfOk result (λ r. r.1.items ≡ table_in configs.now.items pool.now.items) }
 {
-    let (roster, rows) = both(
+    let (roster, rows) = thread::join(
         rt,
-        at_once,
         || -> Result<Roster, AllocError>
             ensures { IfOk result (λ roster. roster ≡ configs.entry.now.items) }
         { Roster::of(alloc, configs) },
@@ -57,13 +55,12 @@ fn plan<R: Threads + Sync>(
     requires workers { (0 < workers) × (workers ≤ 64) }
     ensures { IfOk result (IsBeginning configs.now.items pool.items events.items shards) }
 {
-    let (roster, rows) = roster_and_rows(rt, alloc, 1 < workers, configs, &pool)?;
+    let (roster, rows) = roster_and_rows(rt, alloc, configs, &pool)?;
     let planned = planned(rt, alloc, rows, roster, pool, events, shards, workers)?;
     Ok(planned)
 }
 
-/// New shards of the sessions, and what the replay begins with: the shards are made meanwhile where there are several workers, and
-/// first, with no thread started, where there is one. Fails only when out of memory.
+/// New shards of the sessions, and what the replay begins with, made in parallel. Fails only when out of memory.
 pub(crate) fn begun<W: Timers + Send, R: Threads + Sync>(
     rt: &R,
     alloc: Global,
@@ -80,15 +77,13 @@ pub(crate) fn begun<W: Timers + Send, R: Threads + Sync>(
     ensures new { IfOk result (λ r. AreNewStates shards configs.now.items r.0.items) }
     ensures planned { IfOk result (λ r. IsBeginning configs.now.items pool.items events.items shards r.1) }
 {
-    let at_once = 1 < workers;
-    let (states, plan) = both(
+    let (states, plan) = thread::join(
         rt,
-        at_once,
         move || -> Result<Vec<ShardState<W>>, AllocError>
             requires shards { (0 < shards) × (shards ≤ 64) }
             requires sessions { MayOpen configs.now.items }
             ensures { IfOk result (λ states. AreNewStates shards configs.entry.now.items states.items) }
-        { make_shards(rt, alloc, configs.as_slice(), shards, at_once) },
+        { make_shards(rt, alloc, configs.as_slice(), shards) },
         move || -> Result<Plan, AllocError>
             requires table { IsTable configs.now.items pool.items }
             requires few { length events.items ≤ 200000 }

@@ -1,4 +1,4 @@
-//! What the workers told, put together again.
+//! What the workers reported, put together again.
 ghost use Rattle.std.specs.Prelude.{ℕ, ◌≡◌, ◌≢◌, ◌≤◌, ◌<◌, ◌+◌, ◌%◌, ◌++◌, ◌∷◌, [], List, Ok, Result, Some, IfOk, length, map, slice_get, slice_index_or};
 ghost use Rattle.bfd_engine.specs.declared.fault.EngineFault.{EngineFault as FaultIn};
 ghost use Rattle.bfd_replay.specs.Pieces.{Piece};
@@ -38,7 +38,7 @@ pub(crate) fn all_told(alloc: Global, tolds: Vec<Told>) -> Result<Vec<Vec<Part>>
     Ok(all)
 }
 
-/// Takes out the part of a shard that the worker at this place told.
+/// Takes out the part of a shard that the worker at this place reported.
 fn take_part(alloc: Global, all: &mut Vec<Vec<Part>>, at: usize, shard: usize) -> Part
     requires at { at < length all.old.items }
     requires shard { shard < length (slice_index_or (map (λ parts. parts.items) all.old.items) at []) }
@@ -54,7 +54,7 @@ fn take_part(alloc: Global, all: &mut Vec<Vec<Part>>, at: usize, shard: usize) -
     mem::replace(&mut parts[shard], Part::new(alloc))
 }
 
-/// The parts by shard, each as the worker told it that takes the shard, and last what was told of the events of no session.
+/// The parts by shard, each as the shard's worker reported it, and last what was reported of the events that match no session.
 pub(crate) fn in_order(
     alloc: Global,
     all: Vec<Vec<Part>>,

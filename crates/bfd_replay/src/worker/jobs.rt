@@ -5,6 +5,7 @@ ghost use Rattle.std.specs.Thread.{IsSend, IsSync};
 ghost use Rattle.bfd_engine.specs.Engines.{configs_at};
 ghost use Rattle.bfd_replay.specs.Jobs.{Work, HasWorkedOn, HasEnded, AreOwn, seen_as};
 ghost use Rattle.bfd_replay.specs.Working.{IsWorkerReady, HasLeft};
+ghost use Rattle.bfd_num.specs.Counting.{IsBlankOf};
 
 use crate::plan::Queue;
 use crate::report::Part;
@@ -21,7 +22,7 @@ use std::sync::Wait;
 use std::sync::ledger::{Blank, Ledger};
 use std::thread::{Threads, join_mut};
 
-/// A worker's pass, its queues by shard, and what it told of each shard, or why it stopped.
+/// A worker's pass, its queues by shard, and what it reported of each shard, or why it stopped.
 #[derive(Drop)]
 pub(crate) struct Job {
     pub(crate) pass: EnginePass,
@@ -55,9 +56,7 @@ fn run<W: Timers, R: Wait, G: Gate, L: Ledger>(
 ) -> Result<Vec<Part>, EngineFault>
     requires ready { IsWorkerReady engine.now queues.items pass.old }
     requires room { (shard : ℕ) → 5 * length (configs_at engine.now shard) + 5 ≤ room }
-    requires name { blank.name ≡ L.name }
-    requires parts { blank.parts ≡ L.parts }
-    requires some { 0 < blank.parts }
+    requires blank { IsBlankOf L.name L.parts blank.name blank.parts }
     ensures left { HasLeft engine.now queues.items pass.old pass.new }
     ensures ended { HasEnded engine.now queues.items
         pass.new (seen_as (λ parts. parts.items) result) }
@@ -95,7 +94,7 @@ fn work<W: Timers, R: Wait, G: Gate>(
     );
 }
 
-/// Works on a job in a thread of its own if one is available, and on all others beside it.
+/// Works on a job in a thread of its own if one is available, and on all others alongside it.
 #[cycle(workers)]
 fn work_beside<W: Timers + Send, R: Threads + Wait + Sync, G: Gate + Sync>(
     rt: &R,

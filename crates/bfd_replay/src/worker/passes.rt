@@ -11,7 +11,7 @@ use bfd_engine::{Engine, EngineFault, EnginePass};
 use bfd_wheel::Timers;
 use std::alloc::{AllocError, Global};
 
-/// A job for each worker: worker w takes the shards whose number, divided by the number of workers, leaves w - 1.
+/// A job for each worker: worker w has the shards whose number, divided by the number of workers, leaves w - 1.
 pub(crate) fn deal_jobs<W: Timers>(
     alloc: Global,
     engine: &Engine<W>,
@@ -39,10 +39,10 @@ pub(crate) fn deal_jobs<W: Timers>(
     Ok(jobs)
 }
 
-/// What each worker told, or why it stopped.
+/// What each worker reported, or why it stopped.
 pub(crate) type Told = Result<Vec<Part>, EngineFault>;
 
-/// Takes the workers' passes into that of caller 0, and hands over what each told.
+/// Joins the workers' passes into that of caller 0, and returns what each reported.
 pub(crate) fn join_all<W: Timers>(
     alloc: Global,
     engine: &Engine<W>,

@@ -54,7 +54,6 @@ fn worked<W: Timers + Send, R: Threads + Wait + Sync, G: Gate + Sync>(
     ensures states { IfOk result (λ r. HaveReplayed (script_with configs.items pool.items events.items)
         shards (worker_of workers) r.1.items) }
 {
-    let at_once = 1 < workers;
     let room = 5 * configs.len() + 5;
     let (made, plan) = begun(rt, alloc, &configs, pool, events, shards, workers)?;
     drop(configs);
@@ -64,7 +63,7 @@ fn worked<W: Timers + Send, R: Threads + Wait + Sync, G: Gate + Sync>(
         apart,
     } = plan;
     let most = longest(&queues);
-    let (engine, first) = Engine::of_shards(rt, alloc, table, made, most, at_once)?;
+    let (engine, first) = Engine::of_shards(rt, alloc, table, made, most)?;
     let (states, all) = run_all(rt, alloc, engine, first, queues, workers, room, gate)?;
     let parts = in_order(alloc, all, shards, apart)?;
     Ok((parts, states))
@@ -127,8 +126,9 @@ fn write_at_once<W: Timers + Send + 'static, R: Threads + Sync, K: Sink>(
 }
 
 /// The same replay, whose report is put together by up to four threads and then written to the sink; the shards with their journals are
-/// freed meanwhile. It is refused as Failed where the sink failed, and as Memory when out of memory, here or in the sink, or at 2^64 packets
-/// sent or dropped; the sink took a prefix of the report then. Its counts come back, and for clauses what the closed shards were.
+/// freed meanwhile. It is refused as Failed where the sink failed, and as Memory when out of memory, here or in the sink, or at 2^64
+/// packets sent or dropped; the sink accepted a prefix of the report then. Its counts come back,
+/// and for clauses what the closed shards were.
 #[tactic(auto, using(crate::proofs::Worlds::is_table))]
 pub(crate) fn replay_at_once<
     W: Timers + Send + 'static,

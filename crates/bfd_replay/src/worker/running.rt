@@ -18,8 +18,8 @@ use std::alloc::{AllocError, Global};
 use std::sync::Wait;
 use std::thread::Threads;
 
-/// The queues of an engine's shards, done by so many workers: the closed shards, and what each worker told of each shard. Fails only when
-/// out of memory.
+/// The queues of an engine's shards, done by so many workers: the closed shards, and what each worker reported of each shard. Fails only
+/// when out of memory.
 pub(crate) fn run_all<W: Timers + Send, R: Threads + Wait + Sync, G: Gate + Sync>(
     rt: &R,
     alloc: Global,

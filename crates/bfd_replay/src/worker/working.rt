@@ -1,4 +1,4 @@
-//! A worker's turns on the shards that it takes.
+//! A worker's turns on the shards that it has.
 ghost use Rattle.std.specs.Prelude.{ℕ, ◌≡◌, ◌≤◌, ◌<◌, ◌+◌, ◌*◌, ◌++◌, true, [], IfOk, IfErr, OnOk, length};
 ghost use Rattle.bfd_shard.specs.declared.entry.ShardEvent.{ShardEvent as EventIn};
 ghost use Rattle.bfd_shard.specs.Shard.{CanHappen};
@@ -31,7 +31,7 @@ fn is_for_all(event: &ShardEvent) -> bool
     }
 }
 
-/// Tells what an event gave, by its kind.
+/// Reports what an event gave, by its kind.
 fn tell(
     part: &mut Part,
     number: u64,
@@ -50,7 +50,7 @@ fn tell(
     }
 }
 
-/// One event of a shard, and what it gave is told. Round the turn stands the gate.
+/// One event of a shard, and what it gave is reported. Round the turn stands the gate.
 fn one_event<W: Timers, R: Wait, G: Gate, L: Ledger>(
     rt: &R,
     engine: &Engine<W>,
@@ -126,7 +126,7 @@ fn one_shard<W: Timers, R: Wait, G: Gate, L: Ledger>(
     Ok(())
 }
 
-/// The queues of a worker, one for each shard, which are empty where another worker takes the shard: what each shard's events
+/// The queues of a worker, one for each shard, which are empty where another worker has the shard: what each shard's events
 /// gave, or why a turn was refused.
 pub(crate) fn all_shards<W: Timers, R: Wait, G: Gate, L: Ledger>(
     rt: &R,

@@ -1,4 +1,4 @@
-// Hexadecimal digits, many of them side by side.
+//! Hexadecimal digits, many of them side by side.
 ghost use Rattle.std.specs.Prelude.{◌≡◌, ◌≤◌, ◌+◌, ◌*◌, ◌++◌, ℕ, IfSome, IsTrue, MatchResult, Ok, drop, false, length, take, true};
 ghost use Rattle.hex.specs.Hex.{decode_pairs, decode_sized, encode_lower};
 

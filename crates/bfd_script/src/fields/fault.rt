@@ -1,4 +1,4 @@
-// What can be wrong with a packet file.
+//! What can be wrong with a packet file.
 ghost use Rattle.std.specs.Prelude.{◌≡◌, Some};
 ghost use Rattle.bfd_script.specs.declared.fields.fault.ReadFault.TheVariants.{Memory};
 ghost use Rattle.bfd_script.specs.Complaints.{fault_name, complaint};
@@ -15,7 +15,7 @@ pub enum LineFault {
     /// The line has more than 4,096 bytes before its LF.
     TooLong = 2,
 
-    /// A field is no word that may be there.
+    /// A field is no word that may stand there.
     UnknownWord = 3,
 
     /// The number of fields is wrong.
@@ -111,11 +111,11 @@ pub enum ScriptFault {
     /// The text isn't in the grammar.
     Bad(BadLine),
 
-    /// There was no memory to keep it.
+    /// Out of memory.
     Memory,
 }
 
-/// Why a line was not taken.
+/// Why a line was not accepted.
 #[derive(Clone, Copy)]
 pub enum ReadFault {
     Fault(LineFault),

@@ -1,4 +1,4 @@
-// Lines, fields and numbers.
+//! Lines, fields and numbers.
 ghost use Rattle.std.specs.Prelude.{◌≡◌, ◌+◌, ◌-◌, ◌++◌, ◌==◌, ◌<◌, ◌≤◌, ◌∷◌, [], ◌&&◌, ◌||◌, Err, IfOk, IfSome, IsTrue, MatchOption, Ok, OnOk, drop, if◌then◌else◌, length, map, nat_lt, not, slice_index, take, true};
 ghost use Rattle.std.specs.Simd.Lanes.{mask_l};
 ghost use Rattle.std.specs.List.{list_all, position_or_len, slice_split};
@@ -118,7 +118,7 @@ fn place_in_run(byte: u8, run: &[u8; RUN]) -> usize
     }
 }
 
-/// Where the first such byte of a text is, if far from its front: the length where there is none.
+/// Where the first such byte of a text is, if far from its start: the length where there is none.
 #[tactic(auto, using(crate::proofs::Cuts::at_place, crate::proofs::Cuts::at_end))]
 fn far_place(byte: u8, text: &[u8]) -> usize
     ensures { result ≡ position_or_len (λ other. other == byte) text.now }
@@ -169,7 +169,7 @@ pub(crate) fn cut_at(byte: u8, text: &[u8]) -> Option<(&[u8], &[u8])>
     Some((&text[..place], rest))
 }
 
-/// Where the spaces of the front of a line are: a bit for each byte, by a look at all of them side by side.
+/// Where the spaces of a line's first bytes are: a bit for each byte, by a look at all of them side by side.
 fn marks_of(front: &[u8; FRONT]) -> u64
     ensures { result ≡ mask_l (map (λ other. other == 32) front.now) }
 {
@@ -198,7 +198,7 @@ fn cut_marked(text: &[u8], marked: usize, marks: u64) -> (&[u8], &[u8], u64)
     (front, rest, marks >> place >> 1)
 }
 
-/// What stands between the spaces of the front of a line goes to `fields`: what is left of the line.
+/// What stands between the spaces of a line's first bytes goes to `fields`: what is left of the line.
 #[tactic(auto, using(crate::proofs::Cuts::next_part))]
 fn split_front<'a>(line: &'a [u8], fields: &mut Vec<&'a [u8]>) -> Result<&'a [u8], AllocError>
     ensures { IfOk result (λ rest. map (λ field. field.now) fields.new.items

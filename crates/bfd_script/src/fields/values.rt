@@ -1,4 +1,4 @@
-// Addresses and bytes.
+//! Addresses and bytes.
 ghost use Rattle.std.specs.Prelude.{◌≡◌, ◌*◌, ◌+◌, ◌-◌, ◌<◌, ◌≤◌, ◌%◌, ◌^◌, ◌==◌, ◌∷◌, [], IfOk, IfSome, MatchResult, Ok, length, take, string_bytes};
 ghost use Rattle.std.specs.List.{before_first, slice_split};
 ghost use Rattle.hex.specs.Hex.{IsBytes};

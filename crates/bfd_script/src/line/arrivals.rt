@@ -1,4 +1,4 @@
-// The kinds of port.
+//! The kinds of port.
 ghost use Rattle.std.specs.Prelude.{◌≡◌};
 ghost use Rattle.bfd_script.specs.Arrivals.{port_in};
 

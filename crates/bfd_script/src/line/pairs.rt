@@ -1,4 +1,4 @@
-// The table line of a point-to-point session.
+//! The table line of a point-to-point session.
 ghost use Rattle.std.specs.Prelude.{◌≡◌, IfOk, IsTrue, map};
 ghost use Rattle.bfd_rules.specs.Sound.{is_echo_interval};
 ghost use Rattle.bfd_session.specs.Step.{IsFit};
@@ -6,7 +6,6 @@ ghost use Rattle.bfd_script.specs.Pairs.{AreEnds, IsTiming, active_of, config_by
 ghost use Rattle.bfd_script.specs.Ranges.{IsRow};
 
 use crate::fields::{LineFault, address, number};
-use crate::line::words::spells;
 use bfd_packet::Addr;
 use bfd_rules::{Config, LEAST_INTERVAL, MOST_INTERVAL, Role, is_interval};
 use bfd_session::SessionConfig;
@@ -39,12 +38,10 @@ pub(crate) struct Timing {
 fn role_named(field: &[u8]) -> Result<Role, LineFault>
     ensures { result ≡ role_of field.now }
 {
-    if spells(field, b"single") {
-        Ok(Role::Single)
-    } else if spells(field, b"multi") {
-        Ok(Role::Multi)
-    } else {
-        Err(LineFault::UnknownWord)
+    match field {
+        b"single" => Ok(Role::Single),
+        b"multi" => Ok(Role::Multi),
+        _ => Err(LineFault::UnknownWord),
     }
 }
 
@@ -52,12 +49,10 @@ fn role_named(field: &[u8]) -> Result<Role, LineFault>
 fn active_named(field: &[u8]) -> Result<bool, LineFault>
     ensures { result ≡ active_of field.now }
 {
-    if spells(field, b"active") {
-        Ok(true)
-    } else if spells(field, b"passive") {
-        Ok(false)
-    } else {
-        Err(LineFault::UnknownWord)
+    match field {
+        b"active" => Ok(true),
+        b"passive" => Ok(false),
+        _ => Err(LineFault::UnknownWord),
     }
 }
 

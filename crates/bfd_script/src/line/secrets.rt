@@ -1,4 +1,4 @@
-// The keys of a session.
+//! The keys of a session.
 ghost use Rattle.std.specs.Prelude.{◌≡◌, ◌<◌, IfOk, IsTrue};
 ghost use Rattle.std.specs.Option.{option_copied};
 ghost use Rattle.hex.specs.Hex.{IsBytes};

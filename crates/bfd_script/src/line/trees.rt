@@ -1,4 +1,4 @@
-// The table lines of multipoint trees.
+//! The table lines of multipoint trees.
 ghost use Rattle.std.specs.Prelude.{◌≡◌, IfOk, map};
 ghost use Rattle.bfd_session.specs.Step.{IsFit};
 ghost use Rattle.bfd_script.specs.Trees as lines;

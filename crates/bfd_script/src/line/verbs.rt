@@ -1,4 +1,4 @@
-// The verbs of a command line.
+//! The verbs of a command line.
 ghost use Rattle.std.specs.Prelude.{◌≡◌, ◌<◌, ◌^◌};
 ghost use Rattle.bfd_script.specs.Verbs.{command, fits, known_verb, command_number, takes_number, verb_of};
 
@@ -6,7 +6,7 @@ use crate::fields::LineFault;
 use crate::line::words::{Version, spells};
 use bfd_rules::Cmd;
 
-/// What a session is told to do.
+/// What a session is commanded to do.
 #[derive(Clone, Copy)]
 pub enum Verb {
     Disable,

@@ -1,4 +1,4 @@
-// The versions, the words that begin a line, and where they may stand.
+//! The versions, the words that begin a line, and where they may stand.
 ghost use Rattle.std.specs.Prelude.{◌≡◌};
 ghost use Rattle.std.specs.Str.{bytes_eq};
 ghost use Rattle.bfd_script.specs.Words.{word_of, stands};

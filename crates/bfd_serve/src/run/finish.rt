@@ -27,13 +27,13 @@ pub enum Finish {
     Turns(u32),
 }
 
-/// Why there was no run, or nothing to tell of it.
+/// Why there was no run, or nothing to report of it.
 #[derive(Clone, Copy, Debug, PartialEq, Eq)]
 pub enum Refused {
     /// A port couldn't be opened. Nothing ran.
     PortFault,
 
-    /// No memory is left.
+    /// Out of memory.
     Memory,
 }
 
@@ -47,8 +47,8 @@ pub(crate) fn refused_as(fault: Fault) -> Refused
     }
 }
 
-/// The finish that these ends bring, of the timer first and then of each worker. It's refused only where one of them is when out of memory,
-/// which brings none.
+/// The finish that these ends give, of the timer first and then of each worker. Fails only where one of them is out of memory, which
+/// gives none.
 pub(crate) fn finish_of(ends: &[End]) -> Result<Finish, AllocError>
     requires unspent { All IsUnspent ends.now }
     requires few { length ends.now ≤ 65 }

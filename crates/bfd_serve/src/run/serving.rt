@@ -38,7 +38,7 @@ pub struct Outcome<W: Timers> {
 /// Runs a script whose packets come from links and whose ticks come from a ticker, on 1 to 64 shards, with 1 to 64 workers in parallel. It
 /// may wait.
 ///
-/// Session k of the table stands at place k / shards of shard k % shards, and each shard's journal takes `journal` entries. The
+/// Session k of the table stands at place k / shards of shard k % shards, and each shard's journal accepts `journal` entries. The
 /// timer is caller 0, over link 0 and the ticker, and gives the script's event lines as orders; worker i is caller i, over link i.
 /// Turns and ticks are at most 1,000,000,000.
 ///

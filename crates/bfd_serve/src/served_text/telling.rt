@@ -5,6 +5,7 @@ ghost use Rattle.bfd_script.specs.Report as report;
 ghost use Rattle.bfd_shard.specs.History.{events_of};
 ghost use Rattle.bfd_shard.specs.Shard.{CanHappen, IsHistory};
 ghost use Rattle.bfd_serve.specs.Served.{reply_at, entry_text, entries_text, entries_sent};
+ghost use Rattle.bfd_num.specs.Counting.{IsBlankOf};
 
 use crate::served_text::turn_lines::{discr_in, tell_turn};
 use bfd_num::Steps;
@@ -17,7 +18,7 @@ use std::alloc::{AllocError, Global};
 use std::marker::Brand;
 use std::sync::ledger::{Blank, Ledger};
 
-/// How many packets an output tells of.
+/// How many packets an output sends.
 fn packets(out: &Out) -> u64
     ensures value { result ≡ report.packets_sent_by out.now }
     ensures few { result ≤ 1 }
@@ -28,7 +29,7 @@ fn packets(out: &Out) -> u64
     }
 }
 
-/// How many packets the outputs tell of.
+/// How many packets the outputs send.
 fn sent(outs: &[Out]) -> u64
     ensures { result ≡ sum_by report.packets_sent_by outs.now }
 {
@@ -39,7 +40,7 @@ fn sent(outs: &[Out]) -> u64
     count
 }
 
-/// Gives the entry to the shard, which is below its limit, with a counter of steps of its own. What it puts out is in `outs`.
+/// Gives the entry to the shard, which is below its limit, with a counter of steps of its own. What it emits is in `outs`.
 fn follow<W: Timers, L: Ledger>(
     shard: &mut ShardState<W>,
     entry: Entry,
@@ -50,9 +51,7 @@ fn follow<W: Timers, L: Ledger>(
     requires below { length shard.old.journal < shard.old.limit }
     requires can { CanHappen (configs_of shard.old.sessions) entry.event }
     requires room { 5 * length shard.old.sessions + 5 ≤ outs.old.room }
-    requires name { blank.name ≡ L.name }
-    requires parts { blank.parts ≡ L.parts }
-    requires some { 0 < blank.parts }
+    requires blank { IsBlankOf L.name L.parts blank.name blank.parts }
     ensures taken { IsOk result }
     ensures journal { shard.new.journal ≡ shard.old.journal ++ entry ∷ [] }
     ensures limit { shard.new.limit ≡ shard.old.limit }
@@ -66,7 +65,7 @@ fn follow<W: Timers, L: Ledger>(
     shard.apply(entry.caller, entry.event, outs, &mut Steps::<L>::new(blank))
 }
 
-/// One entry more of a journal: the shard takes it, and its turn and what it gave are appended. Gives how many packets it sent.
+/// One entry more of a journal: the shard accepts it, and its turn and what it gave are appended. Gives how many packets it sent.
 fn tell_entry<W: Timers>(
     alloc: Global,
     shard: &mut ShardState<W>,
@@ -97,7 +96,7 @@ fn tell_entry<W: Timers>(
     Ok(sent(outs.items()))
 }
 
-/// The entries of a journal: a shard at the start takes them, and they are appended with what they gave. Gives how many packets they
+/// The entries of a journal: a shard at the start accepts them, and they are appended with what they gave. Gives how many packets they
 /// sent.
 pub(crate) fn tell_entries<W: Timers>(
     alloc: Global,

@@ -12,7 +12,7 @@ use bfd_wheel::Timers;
 use std::alloc::{AllocError, Global};
 
 /// A job more, for a thread more: a further pass, which has seen what caller 0 has seen, with these calls, the last first, and
-/// room for so many outputs of each. Want of memory is the one refusal. It leaves the jobs and every shard's pass as they were,
+/// room for so many outputs of each. Fails only when out of memory. That leaves the jobs and every shard's pass as they were,
 /// and may use a number up.
 pub fn add_job<W: Timers>(
     alloc: Global,
@@ -65,8 +65,8 @@ fn join_all<W: Timers>(
     Ok(list)
 }
 
-/// Joins the passes of all jobs, and closes the engine: the shards by number, and what each job saw. Want of memory is the one
-/// refusal, and the engine is gone then.
+/// Joins the passes of all jobs, and closes the engine: the shards by number, and what each job saw. Fails only when out of
+/// memory, and the engine is gone then.
 pub fn finish<W: Timers>(
     alloc: Global,
     engine: Engine<W>,

@@ -5,6 +5,7 @@ ghost use Rattle.bfd_engine.specs.Calls.{IsDone};
 ghost use Rattle.bfd_engine.specs.Engines.{IsOf, AllThere, configs_at};
 ghost use Rattle.bfd_thread_tests.specs.Calling.{act_of, HasCalled, HasEndedCalls};
 ghost use Rattle.bfd_thread_tests.specs.Ready.{IsJobReady, number_of};
+ghost use Rattle.bfd_num.specs.Counting.{IsBlankOf};
 
 use bfd_engine::{Engine, EngineFault, EnginePass};
 use bfd_num::{Moment, Steps, Tick};
@@ -30,7 +31,7 @@ pub enum Call {
     Advance(u32, Tick),
 }
 
-/// What a thread saw of a call: its answer, and what it put out.
+/// What a thread saw of a call: its answer, and what it emitted.
 #[derive(Drop)]
 pub struct Saw {
     pub answer: Result<Answer, EngineFault>,
@@ -78,7 +79,7 @@ fn make<W: Timers, R: Wait, L: Ledger>(
     }
 }
 
-/// The next call of a job, and what was seen of it. Want of memory is the one refusal, and comes before the call.
+/// The next call of a job, and what was seen of it. Fails only when out of memory, and before the call.
 fn next<W: Timers, R: Wait, L: Ledger>(
     rt: &R,
     alloc: Global,
@@ -110,9 +111,7 @@ fn work<W: Timers, R: Wait, L: Ledger>(
     blank: Blank,
 ) -> Result<(), AllocError>
     requires ready { IsJobReady engine.now job.old }
-    requires name { blank.name ≡ L.name }
-    requires parts { blank.parts ≡ L.parts }
-    requires some { 0 < blank.parts }
+    requires blank { IsBlankOf L.name L.parts blank.name blank.parts }
     ensures worked { HasCalled engine.now job.old job.new }
     ensures all { OnOk result (job.new.calls.items ≡ []) }
 {

@@ -1,4 +1,4 @@
-// What a run has to write.
+//! What a run has to write.
 ghost use Rattle.std.specs.Prelude.{◌≡◌, ◌≢◌, [], true, false};
 ghost use Rattle.bfd_instance.specs.World.{replayed};
 ghost use Rattle.bfd_script.specs.Sound.{IsScript};

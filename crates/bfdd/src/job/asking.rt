@@ -1,4 +1,4 @@
-// What a job is, and what it does with the source.
+//! What a job is, and what it does with the source.
 ghost use Rattle.std.specs.Prelude.{◌≡◌};
 ghost use Rattle.bfdd.specs.Words.{reads};
 

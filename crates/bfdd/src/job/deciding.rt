@@ -1,4 +1,4 @@
-// What any job has to write.
+//! What any job has to write.
 ghost use Rattle.std.specs.Prelude.{◌≡◌, ◌+◌, ℕ, IfOk, IfSome, IsErrOf, true, false};
 ghost use Rattle.std.specs.Io.KnownBytes.{IsAtEnd};
 ghost use Rattle.bfd_edge.specs.Faults.{Rose};

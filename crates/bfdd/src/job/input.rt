@@ -1,4 +1,4 @@
-// A whole text from a source.
+//! A whole text from a source.
 ghost use Rattle.std.specs.Prelude.{◌≡◌, ◌+◌, ◌<◌, ◌≤◌, [], IfOk, IfSome, IsErrOf, true, false, length};
 ghost use Rattle.std.specs.Io.KnownBytes.{Consumes, IsAtEnd};
 ghost use Rattle.bfd_edge.specs.Faults.{Rose};
@@ -14,7 +14,7 @@ use std::alloc::Global;
 /// The most bytes that a text may have.
 const MOST_BYTES: usize = 67_108_864;
 
-/// How many bytes are asked for at once.
+/// How many bytes are asked for in one call.
 const PIECE: usize = 65_536;
 
 /// Why a text wasn't read.
@@ -26,7 +26,7 @@ pub(crate) enum InputFault {
     /// The source gave more than `MOST_BYTES`.
     TooLarge,
 
-    /// There was no memory.
+    /// Out of memory.
     Memory,
 }
 

@@ -1,4 +1,4 @@
-// What each job has to write.
+//! What each job has to write.
 ghost use Rattle.std.specs.Prelude.{◌≡◌, ◌<◌, ◌≤◌, false, IfOk, Some, string_bytes};
 ghost use Rattle.bfd_load.specs.Load as load;
 ghost use Rattle.bfd_instance.specs.World.{replayed, totals};
@@ -35,7 +35,7 @@ fn complaint(alloc: Global, bad: BadLine) -> Result<String, AllocError>
     format!(in alloc; "{bad}\n")
 }
 
-/// A text that is no script: its first faulty line is told.
+/// A text that is no script: its first faulty line is reported.
 pub(crate) fn complain(alloc: Global, bad: BadLine) -> Result<Answer, AllocError>
     ensures { IfOk result (λ answer. answer ≡ ends (Status.BadLine bad.line bad.fault) (complaint_line bad)) }
 {
@@ -44,7 +44,7 @@ pub(crate) fn complain(alloc: Global, bad: BadLine) -> Result<Answer, AllocError
     Ok(Answer::whole(Status::BadLine { line, fault }, text))
 }
 
-/// Lets bytes go. A large list that is dropped whole would have the allocator grow the lists that come within its heap, by copying
+/// Frees bytes. A large list that is dropped whole would have the allocator grow the lists that come within its heap, by copying
 /// and with holes; one that has shrunk goes back to the system.
 fn let_go(bytes: Vec<u8>) {
     let mut bytes = bytes;

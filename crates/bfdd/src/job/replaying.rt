@@ -1,4 +1,4 @@
-// A replay on the hands that a job asks for.
+//! A replay on the hands that a job asks for.
 ghost use Rattle.std.specs.Prelude.{◌≡◌, IfOk, OnOk};
 ghost use Rattle.std.specs.Io.KnownBytes.{Appends};
 ghost use Rattle.bfd_edge.specs.Faults.{HasCause};
@@ -36,8 +36,8 @@ pub(crate) struct Replay {
     pub(crate) shards: ShardsOf,
 }
 
-/// A replay on these hands, whose report is written to the sink. It fails as Failed where the sink failed, and as Memory when out of memory, here
-/// or in the sink; the sink took a prefix of the report then.
+/// A replay on these hands, whose report is written to the sink. It fails as Failed where the sink failed, and as Memory when out of
+/// memory, here or in the sink; the sink accepted a prefix of the report then.
 pub(crate) fn write_replay<R: Threads + Wait + Sync, G: Gate + Sync, K: Sink>(
     rt: &R,
     alloc: Global,

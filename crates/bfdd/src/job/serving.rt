@@ -1,4 +1,4 @@
-// `serve`: a script with packets and ticks from outside.
+//! `serve`: a script with packets and ticks from outside.
 ghost use Rattle.std.specs.Prelude.{◌≡◌, ◌+◌, ℕ, false, IfErr, IfOk, IfSome, IsErrOf};
 ghost use Rattle.std.specs.Io.KnownBytes.{IsAtEnd};
 ghost use Rattle.bfd_edge.specs.Faults.{Rose};
@@ -110,7 +110,7 @@ where
     }
 }
 
-/// Serves a script by these numbers, and answers what is to be told of it. Fails only when out of memory. Every link that was opened is
+/// Serves a script by these numbers, and answers what is to be reported of it. Fails only when out of memory. Every link that was opened is
 /// shut.
 pub(crate) fn serve_by<R: Threads + Wait + Sync, G: Gate + Sync, P: Ports, T: Ticker + Send>(
     rt: &R,
@@ -146,13 +146,13 @@ where
 /// Why there is no script to serve.
 #[derive(Drop)]
 pub(crate) enum Unread {
-    /// The text is no script, or is too large: what is to be told of that.
+    /// The text is no script, or is too large: what is to be reported of that.
     Told(Answer),
 
     /// The source failed.
     Failed,
 
-    /// There was no memory.
+    /// Out of memory.
     Memory,
 }
 
@@ -184,7 +184,7 @@ pub(crate) fn live_script<S: Source>(alloc: Global, source: &mut S) -> Result<Sc
     }
 }
 
-/// What `serve` has to tell, by these numbers and by the script that the source has. Every link that was opened is shut.
+/// What `serve` has to report, by these numbers and by the script that the source has. Every link that was opened is shut.
 pub(crate) fn serve_answer<
     R: Threads + Wait + Sync,
     G: Gate + Sync,

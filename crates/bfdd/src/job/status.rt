@@ -1,4 +1,4 @@
-// How a run ended.
+//! How a run ended.
 ghost use Rattle.std.specs.Prelude.{◌≡◌};
 ghost use Rattle.bfdd.specs.Codes.{code_of};
 
@@ -42,7 +42,7 @@ pub enum Status {
     /// The ticker failed. The served text was written as with `LinkFault`.
     ClockFault,
 
-    /// There was no memory.
+    /// Out of memory.
     Memory,
 
     /// The first of the discriminators to watch that no session of the script has. Nothing was written.

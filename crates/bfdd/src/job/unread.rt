@@ -1,12 +1,12 @@
 //! A sink for a report of which nobody reads more than its counts.
-ghost use Rattle.std.specs.Prelude.{ℕ, ◌≡◌, ◌⊎◌, ◌<◌, [], IfOk, None, Ok, length};
+ghost use Rattle.std.specs.Prelude.{ℕ, ◌≡◌, ◌⊎◌, ◌<◌, [], false, IfOk, None, Ok, length};
 ghost use Rattle.std.specs.Io.{WritesAtMost};
 ghost use Rattle.std.specs.Io.KnownBytes.{WriteAppends};
 ghost use Rattle.bfd_edge.specs.Faults.{HasCause, Rose};
 
 use bfd_edge::{Fault, Sink};
 
-/// Takes every byte, keeps none and never fails.
+/// Accepts every byte, keeps none and never fails.
 #[derive(Drop)]
 pub(crate) struct Unread {}
 
@@ -14,6 +14,12 @@ impl Sink for Unread {
     ghost taken = { λ s. None };
 
     ghost faults = { λ s. 0 };
+
+    fn is_read(&self) -> bool
+        ensures { result ≡ false }
+    {
+        false
+    }
 
     fn write(&mut self, piece: &[u8]) -> Result<usize, Fault>
         ensures all { result ≡ Ok (length piece.now) }

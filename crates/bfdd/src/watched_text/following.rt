@@ -1,4 +1,4 @@
-//! A watch of each shard of an engine, and what they tell after an event.
+//! A watch of each shard of an engine, and what they report after an event.
 ghost use Rattle.std.specs.Prelude.{ℕ, ◌≡◌, ◌≤◌, ◌<◌, ◌++◌, IfOk, IfErr, OnOk, [], length, slice_get, slice_index_or, Some};
 ghost use Rattle.bfd_session.specs.Rows.{AreFit};
 ghost use Rattle.bfd_shard.specs.Dealing.{share};
@@ -40,7 +40,7 @@ fn dealt_to(
     Ok(part)
 }
 
-/// A watch of each shard, which has taken no entry, and takes `limit`.
+/// A watch of each shard, which has accepted no entry, and accepts `limit`.
 pub(crate) fn watches<W: Timers>(
     alloc: Global,
     configs: &[SessionConfig],
@@ -62,7 +62,7 @@ pub(crate) fn watches<W: Timers>(
     Ok(list)
 }
 
-/// What these entries tell, which the watch takes.
+/// What these entries report, which the watch accepts.
 fn take_all<W: Timers>(
     alloc: Global,
     watch: &mut Watch<W>,
@@ -80,7 +80,7 @@ fn take_all<W: Timers>(
     Ok(told)
 }
 
-/// What a shard's watch tells of the entries that it hasn't taken yet, as those of the event of this number.
+/// What a shard's watch reports of the entries that it hasn't accepted yet, as those of the event of this number.
 fn poll<W: Timers, R: Wait>(
     rt: &R,
     alloc: Global,
@@ -115,7 +115,7 @@ fn poll<W: Timers, R: Wait>(
     }
 }
 
-/// What all watches tell after the event of this number, by discriminator where each shard's is so.
+/// What all watches report after the event of this number, by discriminator where each shard's is so.
 pub(crate) fn poll_all<W: Timers, R: Wait>(
     rt: &R,
     alloc: Global,
@@ -135,7 +135,8 @@ pub(crate) fn poll_all<W: Timers, R: Wait>(
     ensures watched { OnOk result (AreWatched engine.now engine.now.limit pass.new watches.new.items) }
     ensures told { IfOk result (λ told. (d : WatchingIn) → told.items ≡ merged_of (length engine.now.locks)
         (λ r. news number (slice_index_or watches.old.items r d) (seen_at pass.new r))) }
-    ensures untaken { IfErr result (λ fault. (r : ℕ) × (r < length engine.now.locks) × IsUntaken fault engine.now engine.now.limit r pass.new) }
+    ensures untaken { IfErr result (λ fault. (r : ℕ) × (r < length engine.now.locks) × IsUntaken fault engine.now engine.now.limit r
+        pass.new) }
 {
     let mut told = Vec::new(alloc);
     for shard in 0..engine.shards() {

@@ -5,7 +5,7 @@ ghost use Rattle.bfdd.specs.Following.{lower, merged, not_lower, of_event};
 use bfd_watch::Change;
 use std::alloc::{AllocError, Global};
 
-/// The changes, told of the event of this number.
+/// The changes, reported of the event of this number.
 pub(crate) fn renumbered(
     alloc: Global,
     number: u64,

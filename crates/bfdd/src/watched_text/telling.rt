@@ -12,6 +12,7 @@ ghost use Rattle.bfd_watch.specs.Watched as watch;
 ghost use Rattle.bfd_replay.specs.Turning.{AllSole, HasKept, IsCutShort};
 ghost use Rattle.bfdd.specs.Following.{AreWatched};
 ghost use Rattle.bfdd.specs.Members.{watched_of};
+ghost use Rattle.bfd_num.specs.Counting.{IsBlankOf};
 
 use crate::watched_text::following::{poll_all, watches};
 use crate::watched_text::members::group;
@@ -48,9 +49,7 @@ fn tell<W: Timers, R: Wait, L: Ledger>(
     requires ascends { Ascends engine.now.configs }
     requires watched { AreWatched engine.now engine.now.limit pass.old watches.items }
     requires room { (shard : ℕ) → 5 * length (configs_at engine.now shard) + 5 ≤ outs.room }
-    requires name { blank.name ≡ L.name }
-    requires parts { blank.parts ≡ L.parts }
-    requires one { 0 < blank.parts }
+    requires blank { IsBlankOf L.name L.parts blank.name blank.parts }
     ensures of { IsOf engine.now pass.new.1 }
     ensures there { AllThere pass.new.1 }
     ensures kept { HasKept (2 * length events.items + 2) pass.old pass.new }
@@ -103,7 +102,7 @@ fn text_of(told: Result<Vec<u8>, EngineFault>) -> Result<Vec<u8>, AllocError>
 
 /// The watched text of a replay of the script on 1 to 64 shards, with a group of these members, of which `need` must be Up: the changes
 /// of each event, of members and of other sessions, and each move of the group. Each line is turns of an engine's shards, and after each
-/// event a watch of each shard takes its history's new entries. Fails only when out of memory.
+/// event a watch of each shard accepts its history's new entries. Fails only when out of memory.
 pub fn watched<R: Wait>(
     rt: &R,
     alloc: Global,

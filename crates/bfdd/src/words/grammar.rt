@@ -24,7 +24,7 @@ const SERVE: [&str; 6] = [
 /// Options of `watch`.
 const WATCH: [&str; 1] = ["--shards"];
 
-/// The hands of these options, with so many workers where they aren't told.
+/// The hands of these options, with so many workers where they aren't given.
 fn hands(workers: u32, options: &[String]) -> Option<Hands>
     requires { (1 ≤ workers) × (workers ≤ 64) }
     ensures value { result ≡ hands_of workers (map (λ word. string_bytes word) options.now) }
@@ -126,7 +126,7 @@ fn leading(words: &[String]) -> Option<ArrayVec<u32, 64>>
     Some(members)
 }
 
-/// Whether no number is there twice.
+/// Whether no number is given twice.
 fn are_distinct(numbers: &[u32]) -> bool
     ensures { result ≡ are_distinct numbers.now }
 {

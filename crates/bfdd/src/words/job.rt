@@ -71,7 +71,7 @@ pub enum Job {
         /// How many turns a worker makes at most, 1 to 1,000,000,000.
         turns: u32,
 
-        /// How many ticks are told, 0 to 1,000,000,000.
+        /// How many ticks are accepted, 0 to 1,000,000,000.
         ticks: u32,
 
         /// How many entries a shard's journal holds, 1 to 200,000.

@@ -18,7 +18,8 @@ returns-then-is_some-clause-done t c h =
     let found : is_some c.first.result ≡ true = search rules in
     let one : Handed = one_before c.hear_one-code.new.answer (none_handed 0 places after) in
     subst (λ (l : List Arrived). one ≡ handed (length l) l c.args.answers.now e) (sym c.in-Some.ensures.cases.0)
-    (subst (λ (l : List Answered). one ≡ handed (suc (length others)) (c.in-Some.arrived.now ∷ others) l e) (sym c.in-Some-split_first_mut.ensures.cases.0)
+    (subst (λ (l : List Answered). one ≡ handed (suc (length others)) (c.in-Some.arrived.now ∷ others) l e)
+    (sym c.in-Some-split_first_mut.ensures.cases.0)
     (stopped line c.in-Some-split_first_mut.answer.now c.hear_one-code.new.answer places e after c.first.result
     (handed (length others) others places (asked line e).0) did (c.hear_one-code.ensures.answer zero) c.first.ensures found))
 
@@ -33,7 +34,8 @@ returns-clause-done t c h =
     let behind : Handed = record { engine = r.new.engine; answers = r.new.answers; packets = r.result.0; code = r.result.1 } in
     let all : Handed = one_before c.hear_one-code.new.answer behind in
     subst (λ (l : List Arrived). all ≡ handed (length l) l c.args.answers.now e) (sym c.in-Some.ensures.cases.0)
-    (subst (λ (l : List Answered). all ≡ handed (suc (length others)) (c.in-Some.arrived.now ∷ others) l e) (sym c.in-Some-split_first_mut.ensures.cases.0)
+    (subst (λ (l : List Answered). all ≡ handed (suc (length others)) (c.in-Some.arrived.now ∷ others) l e)
+    (sym c.in-Some-split_first_mut.ensures.cases.0)
     (went_on line c.in-Some-split_first_mut.answer.now c.hear_one-code.new.answer places e after c.first.result
     (λ x. handed (length others) others places x) behind did (c.hear_one-code.ensures.answer zero) c.first.ensures none (r.ensures.done h)))
 
@@ -49,7 +51,8 @@ returns-clause-memory t c h =
     let all : Handed = one_before c.hear_one-code.new.answer behind in
     let more : suc r.result.0 ≡ r.result.0 + 1 = omega arith in
     subst (λ (l : List Arrived). all ≡ handed (r.result.0 + 1) l c.args.answers.now e) (sym c.in-Some.ensures.cases.0)
-    (subst (λ (l : List Answered). all ≡ handed (r.result.0 + 1) (c.in-Some.arrived.now ∷ others) l e) (sym c.in-Some-split_first_mut.ensures.cases.0)
+    (subst (λ (l : List Answered). all ≡ handed (r.result.0 + 1) (c.in-Some.arrived.now ∷ others) l e)
+    (sym c.in-Some-split_first_mut.ensures.cases.0)
     (subst (λ (n : ℕ). all ≡ handed n (c.in-Some.arrived.now ∷ others) (c.in-Some-split_first_mut.answer.now ∷ places) e) more
     (went_on line c.in-Some-split_first_mut.answer.now c.hear_one-code.new.answer places e after c.first.result
     (λ x. handed r.result.0 others places x) behind did (c.hear_one-code.ensures.answer zero) c.first.ensures none (r.ensures.memory h))))

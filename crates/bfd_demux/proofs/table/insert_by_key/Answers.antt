@@ -12,8 +12,10 @@ unreachable-requires g c =
 
 pub returns-in-Ok-clause-ascending : goal.returns-in-Ok-clause-ascending
 returns-in-Ok-clause-ascending g c = rw c.in-Ok.ensures.items
-    (ascending_inserted g.met.K.Ord.total c.args.entries.now.items c.in-Err.place c.args.entry c.requires.ascending (rw c.deref.ensures.value at c.in-Err.ensures))
+    (ascending_inserted g.met.K.Ord.total c.args.entries.now.items c.in-Err.place c.args.entry c.requires.ascending
+    (rw c.deref.ensures.value at c.in-Err.ensures))
 
 pub returns-in-Ok-clause-same : goal.returns-in-Ok-clause-same
 returns-in-Ok-clause-same g c = λ test. rw c.in-Ok.ensures.items
-    (how_many-insert test c.args.entries.now.items c.in-Err.place c.args.entry ∙ sym (how_many-cons test c.args.entry c.args.entries.now.items))
+    (how_many-insert test c.args.entries.now.items c.in-Err.place c.args.entry
+    ∙ sym (how_many-cons test c.args.entry c.args.entries.now.items))

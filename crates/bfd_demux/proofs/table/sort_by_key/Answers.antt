@@ -8,7 +8,8 @@ returns-then-is_ascending-clause-once g c _ =
 
 pub returns-clause-ascending : goal.returns-clause-ascending
 returns-clause-ascending g c once =
-    ascending_from_sorted g.met.K.Ord.total _ (c.sort_unstable_by_key.ensures.sorted (λ entry. entry.0) (answers_always _ _ _ (λ f a r h k. search rules)))
+    ascending_from_sorted g.met.K.Ord.total _ (c.sort_unstable_by_key.ensures.sorted (λ entry. entry.0)
+    (answers_always _ _ _ (λ f a r h k. search rules)))
     (keys_once-IsPermutation g.K.Ord.cmp c.sort_unstable_by_key.ensures.permutation once)
 
 pub returns-clause-once : goal.returns-clause-once

@@ -10,7 +10,8 @@ returns-then-number-len-clause-rest c = cc (set_ended c.args.links.now.items c.a
 
 pub returns-else-number-len-clause-link : goal.returns-else-number-len-clause-link
 returns-else-number-len-clause-link c =
-    (c.make-ended.ensures ∙ rw (c.new.ensures.items, c.new-2.ensures.items) refl) ∙ link_past c.args.links.now.items c.args.number (search rules)
+    (c.make-ended.ensures ∙ rw (c.new.ensures.items, c.new-2.ensures.items) refl)
+    ∙ link_past c.args.links.now.items c.args.number (search rules)
 
 pub returns-else-number-len-clause-rest : goal.returns-else-number-len-clause-rest
 returns-else-number-len-clause-rest c =

@@ -9,5 +9,6 @@ loop-shard-preserved g c =
     let e = c.in_ok-state.ensures in
     record {
       long = rw c.in_ok-push.ensures.items (omega (arith, length-append c.loop-shard.states.items (c.in_ok-state.state ∷ []), i.long));
-      each = rw c.in_ok-push.ensures.items (new_more c.args.shards c.args.configs.now c.loop-shard.states.items c.in_ok-state.state c.loop-shard.shard i.long i.each (record { sessions = e.sessions; journal = e.journal; limit = e.limit }));
+      each = rw c.in_ok-push.ensures.items (new_more c.args.shards c.args.configs.now c.loop-shard.states.items c.in_ok-state.state
+          c.loop-shard.shard i.long i.each (record { sessions = e.sessions; journal = e.journal; limit = e.limit }));
     }

@@ -19,5 +19,6 @@ returns g c =
           let one = (m.each r (Ok d) (omega (arith, n.long, h))).1 in
           let place : one.job ≡ r = sym (one.job_is 0) ∙ n.each r 0 h in
           made_at (IsNewState (share c.args.shards r c.args.configs.now)) states.items r d all
-          (subst (λ k. IfOk (get_or c.in_ok-made.made.items r (Ok d)) (IsNewState (share c.args.shards k c.args.configs.now))) place one.call.met);
+          (subst (λ k. IfOk (get_or c.in_ok-made.made.items r (Ok d)) (IsNewState (share c.args.shards k c.args.configs.now))) place
+          one.call.met);
     }) c.all_there.ensures

@@ -4,7 +4,8 @@ use Rattle.bfd_engine.proofs.States.{of, may_lock, shares_of_new}
 use Rattle.bfd_engine.proofs.open.alone.Goals as goal
 
 pub make_in_turn-requires-clause-sessions : goal.make_in_turn-requires-clause-sessions
-make_in_turn-requires-clause-sessions g c = rw c.as_slice.ensures.value (record { few = rw (← c.requires.its) c.pool.ensures.few; fit = c.requires.fit })
+make_in_turn-requires-clause-sessions g c = rw c.as_slice.ensures.value
+    (record { few = rw (← c.requires.its) c.pool.ensures.few; fit = c.requires.fit })
 
 pub lock_in_turn-requires : goal.lock_in_turn-requires
 lock_in_turn-requires g c = may_lock c.args.limit c.in_ok-states.states.items c.in_ok-states.ensures

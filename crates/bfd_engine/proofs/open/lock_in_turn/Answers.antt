@@ -17,11 +17,14 @@ loop-state-preserved g c =
       finite = tt;
       all = cc (append_assoc c.loop-state.yielded (c.in-Some.state ∷ []) c.next.new.self.rest.items, c.in-Some.ensures.steps.0);
       may = (subst (λ xs. AllByRecursion (MayLock c.args.limit) xs) c.in-Some.ensures.steps.0 i.may).1;
-      made = rw c.in_ok-push.ensures.items (parts_more c.args.limit of c.loop-state.yielded c.loop-state.shards.items c.in-Some.state c.in_ok-shard.shard i.made c.in_ok-shard.ensures);
+      made = rw c.in_ok-push.ensures.items (parts_more c.args.limit of c.loop-state.yielded c.loop-state.shards.items c.in-Some.state
+          c.in_ok-shard.shard i.made c.in_ok-shard.ensures);
     }
 
 pub returns : goal.returns
 returns g c =
     let i = c.loop-state.invariant in
-    let all : c.loop-state.yielded ≡ c.args.states.items = cc (append-nil c.loop-state.yielded, nil_from_length c.loop-state.state-iterator.rest.items (cc (c.in-None.ensures.steps.0)), i.all) in
-    IfOk-weaker c.apart.result _ _ (λ r. opened c.args.limit (map of c.args.states.items) c.loop-state.shards.items (rw (← all) i.made)) c.apart.ensures
+    let all : c.loop-state.yielded ≡ c.args.states.items =
+    cc (append-nil c.loop-state.yielded, nil_from_length c.loop-state.state-iterator.rest.items (cc (c.in-None.ensures.steps.0)), i.all) in
+    IfOk-weaker c.apart.result _ _ (λ r. opened c.args.limit (map of c.args.states.items) c.loop-state.shards.items (rw (← all) i.made))
+    c.apart.ensures

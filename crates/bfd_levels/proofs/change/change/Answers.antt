@@ -9,4 +9,5 @@ pub returns-clause-dues : goal.returns-clause-dues
 returns-clause-dues g c = cc (set-set c.args.dues.now c.args.id never c.args.due)
 
 pub returns-clause-soonest : goal.returns-clause-soonest
-returns-clause-soonest g c = c.after_write.ensures c.args.dues.now c.args.id c.requires.soonest c.requires.id refl (cc (set-set c.args.dues.now c.args.id never c.args.due))
+returns-clause-soonest g c = c.after_write.ensures c.args.dues.now c.args.id c.requires.soonest c.requires.id refl
+    (cc (set-set c.args.dues.now c.args.id never c.args.due))

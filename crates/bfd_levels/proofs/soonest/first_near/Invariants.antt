@@ -5,4 +5,5 @@ use Rattle.bfd_levels.proofs.soonest.first_near.Given as goal
 
 -- the lists of the ticks so far are empty
 abbrev pub invariant-loop-tick : goal.invariant-loop-tick
-invariant-loop-tick l = (k : ℕ) → l.now < k → l.from ≤ k → k < l.tick → next_in l.nodes (slot (length l.dues) k 0) ≡ slot (length l.dues) k 0
+invariant-loop-tick l = (k : ℕ) → l.now < k → l.from ≤ k → k < l.tick
+    → next_in l.nodes (slot (length l.dues) k 0) ≡ slot (length l.dues) k 0

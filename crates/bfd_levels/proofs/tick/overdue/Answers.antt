@@ -18,4 +18,9 @@ returns-clause-left g c = overdue_left c.walk.new.dues c.requires.back c.walk.en
 
 pub returns-clause-cost : goal.returns-clause-cost
 returns-clause-cost g c =
-    omega (arith, c.walk.ensures.cost, still_loads (length c.args.dues.now) c.args.now 6 c.walk.new.dues c.walk.new.nodes, still_loads (length c.args.dues.now) c.args.now 5 c.args.dues.now c.args.nodes.now)
+    omega (
+      arith,
+      c.walk.ensures.cost,
+      still_loads (length c.args.dues.now) c.args.now 6 c.walk.new.dues c.walk.new.nodes,
+      still_loads (length c.args.dues.now) c.args.now 5 c.args.dues.now c.args.nodes.now,
+    )

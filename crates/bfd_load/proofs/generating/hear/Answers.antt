@@ -12,5 +12,6 @@ loop-i-init c = record {
 pub loop-i-preserved : goal.loop-i-preserved
 loop-i-preserved c = record {
   place = omega (arith, c.loop-i.invariant.place);
-  whole = heard_one c.args.t c.loop-i.events.items c.loop-i-test.true c.loop-i.invariant.place c.loop-i.invariant.whole c.in_ok-hear_one.ensures;
+  whole = heard_one c.args.t c.loop-i.events.items c.loop-i-test.true c.loop-i.invariant.place c.loop-i.invariant.whole
+      c.in_ok-hear_one.ensures;
 }

@@ -10,7 +10,8 @@ loop-k-preserved g c =
     record {
       count = λ d.
           let e = ap (λ s. sum_by one_up s.sessions) (c.index.ensures ∙ any c.args.states.now.items _ c.index.result.now d inside) in
-          let f = sum_step (λ k. sum_by one_up (slice_index_or c.args.states.now.items k d).sessions) c.loop-k.k in omega (arith, i.count d, c.up_of-count.ensures.value, e, f);
+          let f = sum_step (λ k. sum_by one_up (slice_index_or c.args.states.now.items k d).sessions) c.loop-k.k in
+          omega (arith, i.count d, c.up_of-count.ensures.value, e, f);
       few = omega (arith, i.few, c.up_of-count.ensures.few);
       kept = kept_more c.args.states.now.items c.loop-k.k c.index.result.now inside c.index.ensures c.up_of-count.ensures.kept i.kept;
     }

@@ -13,5 +13,6 @@ pub returns-clause-value : goal.returns-clause-value
 returns-clause-value c =
     let by_discr = c.binary_search_by_key.ensures.position (λ s. discr_of s) (answers_always _ _ _ (λ f a r g called. search rules)) in
     let same = map-id c.args.rows.now in
-    cc (searched (λ (s : SessionConfig). s) c.args.rows.now c.args.discr c.binary_search_by_key.result (subst Ascends (sym same) c.requires.ascends)
+    cc (searched (λ (s : SessionConfig). s) c.args.rows.now c.args.discr c.binary_search_by_key.result
+    (subst Ascends (sym same) c.requires.ascends)
     c.binary_search_by_key.ensures.bound by_discr)

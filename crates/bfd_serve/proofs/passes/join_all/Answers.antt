@@ -12,13 +12,25 @@ loop-pass-init g c = record {
 }
 
 pub join-requires-clause-of : goal.join-requires-clause-of
-join-requires-clause-of g c = (c.loop-pass.invariant.taken.of, (all_next (IsOther c.args.engine.now) _ c.loop-pass.yielded c.next.new.self.rest.items c.in-Some.pass (cc (c.in-Some.ensures.steps.0)) c.requires.others).of)
+join-requires-clause-of g c = (
+  c.loop-pass.invariant.taken.of,
+  (all_next (IsOther c.args.engine.now) _ c.loop-pass.yielded c.next.new.self.rest.items c.in-Some.pass (cc (c.in-Some.ensures.steps.0))
+      c.requires.others).of,
+)
 
 pub join-requires-clause-there : goal.join-requires-clause-there
-join-requires-clause-there g c = (c.loop-pass.invariant.taken.there, (all_next (IsOther c.args.engine.now) _ c.loop-pass.yielded c.next.new.self.rest.items c.in-Some.pass (cc (c.in-Some.ensures.steps.0)) c.requires.others).there)
+join-requires-clause-there g c = (
+  c.loop-pass.invariant.taken.there,
+  (all_next (IsOther c.args.engine.now) _ c.loop-pass.yielded c.next.new.self.rest.items c.in-Some.pass (cc (c.in-Some.ensures.steps.0))
+      c.requires.others).there,
+)
 
 pub join-requires-clause-numbers : goal.join-requires-clause-numbers
-join-requires-clause-numbers g c = (c.loop-pass.invariant.taken.number, (all_next (IsOther c.args.engine.now) _ c.loop-pass.yielded c.next.new.self.rest.items c.in-Some.pass (cc (c.in-Some.ensures.steps.0)) c.requires.others).number)
+join-requires-clause-numbers g c = (
+  c.loop-pass.invariant.taken.number,
+  (all_next (IsOther c.args.engine.now) _ c.loop-pass.yielded c.next.new.self.rest.items c.in-Some.pass (cc (c.in-Some.ensures.steps.0))
+      c.requires.others).number,
+)
 
 pub loop-pass-preserved : goal.loop-pass-preserved
 loop-pass-preserved g c = record {
@@ -30,5 +42,6 @@ loop-pass-preserved g c = record {
 
 pub returns-clause-joined : goal.returns-clause-joined
 returns-clause-joined g c =
-    let whole : c.loop-pass.yielded ≡ c.args.passes.items = cc (append-nil c.loop-pass.yielded, (nil_from_length c.loop-pass.pass-iterator.rest.items (cc (c.in-None.ensures.steps.0)))) in
+    let whole : c.loop-pass.yielded ≡ c.args.passes.items =
+    cc (append-nil c.loop-pass.yielded, (nil_from_length c.loop-pass.pass-iterator.rest.items (cc (c.in-None.ensures.steps.0)))) in
     λ s h. rw (← whole) (c.loop-pass.invariant.taken.joined s h)

@@ -5,7 +5,8 @@ use lib.Chars.{codes}
 use mir.Syntax.{Ty, ty_unit, named}
 use denote.RattleType.{RattleType}
 use denote.Exit.{no}
-use Rattle.bfd_serve.proofs.Common.{u64, param, arg, sendable, IsSend, IsSync, param_send, arg_send, shr_send, mut_send, shr_slice_send, engine_sync}
+use Rattle.bfd_serve.proofs.Common.{u64, param, arg, sendable, IsSend, IsSync, param_send, arg_send, shr_send, mut_send, shr_slice_send}
+use Rattle.bfd_serve.proofs.Common.{engine_sync}
 use denote.Param.SendFields.{declared_send, as_row_send}
 use denote.Struct.Field.{row_field}
 use denote.Struct.Tuple.{type_at, TupleAt}
@@ -15,7 +16,8 @@ use Rattle.bfd_script.proofs.line.entries.Line.TheSendSync as line
 use Rattle.bfd_serve.proofs.threads.beside.Goals as goal
 
 -- a closure that lends and owns eight captures, and is only called
-captures_send : (δ : Ty) (name : List ℕ) (T₀ T₁ T₂ T₃ T₄ T₅ T₆ T₇ : RattleType) → IsSend T₀ → IsSend T₁ → IsSend T₂ → IsSend T₃ → IsSend T₄ → IsSend T₅ → IsSend T₆ → IsSend T₇
+captures_send : (δ : Ty) (name : List ℕ) (T₀ T₁ T₂ T₃ T₄ T₅ T₆ T₇ : RattleType) → IsSend T₀ → IsSend T₁ → IsSend T₂ → IsSend T₃ → IsSend T₄
+    → IsSend T₅ → IsSend T₆ → IsSend T₇
     → IsSend (param 1 (arg δ no (TupleAt name (T₀ ∷ T₁ ∷ T₂ ∷ T₃ ∷ T₄ ∷ T₅ ∷ T₆ ∷ T₇ ∷ []))))
 captures_send δ name T₀ T₁ T₂ T₃ T₄ T₅ T₆ T₇ s₀ s₁ s₂ s₃ s₄ s₅ s₆ s₇ =
     let Ts : List RattleType = T₀ ∷ T₁ ∷ T₂ ∷ T₃ ∷ T₄ ∷ T₅ ∷ T₆ ∷ T₇ ∷ [] in
@@ -27,7 +29,13 @@ captures_send δ name T₀ T₁ T₂ T₃ T₄ T₅ T₆ T₇ s₀ s₁ s₂ s�
           as_row_send (row_field T₂) s₂,
           (
             as_row_send (row_field T₃) s₃,
-            (as_row_send (row_field T₄) s₄, (as_row_send (row_field T₅) s₅, (as_row_send (row_field T₆) s₆, (as_row_send (row_field T₇) s₇, tt)))),
+            (
+              as_row_send (row_field T₄) s₄,
+              (
+                as_row_send (row_field T₅) s₅,
+                (as_row_send (row_field T₆) s₆, (as_row_send (row_field T₇) s₇, tt)),
+              ),
+            ),
           ),
         ),
       ),
@@ -38,8 +46,11 @@ join_mut-requires-send-F g c κs within =
     let n : IsSync u64 = search sendable depth 20 in
     let s = captures_send ty_unit (codes "bfd_serve::threads::fn::beside::timed+Self") _ _ _ _ _ _ _ _
     (shr_send (named 8) κs.1.1.1.1.1.1.1.1.0 _ c.type_bounds.sync-R) (shr_send (named 9) κs.1.1.1.1.1.1.1.1.1.0 _ heap.sync)
-    (shr_send (named 10) κs.1.1.1.1.1.1.1.1.1.1.0 _ (engine_sync (param 0 g.row.W) g.W.Timers g.W.Timers-dict g.W.Destruct-dict c.type_bounds.send-W))
-    (mut_send (named 11) κs.1.1.1.1.1.1.1.1.1.1.1.0 _ pass.the_send) (mut_send (named 12) κs.1.1.1.1.1.1.1.1.1.1.1.1.0 _ c.type_bounds.send-L)
+    (shr_send (named 10) κs.1.1.1.1.1.1.1.1.1.1.0 _
+    (engine_sync (param 0 g.row.W) g.W.Timers g.W.Timers-dict g.W.Destruct-dict c.type_bounds.send-W))
+    (mut_send (named 11) κs.1.1.1.1.1.1.1.1.1.1.1.0 _ pass.the_send)
+    (mut_send (named 12) κs.1.1.1.1.1.1.1.1.1.1.1.1.0 _ c.type_bounds.send-L)
     (mut_send (named 13) κs.1.1.1.1.1.1.1.1.1.1.1.1.1.0 _ c.type_bounds.send-T)
-    (shr_slice_send (named 14) κs.1.1.1.1.1.1.1.1.1.1.1.1.1.1.0 _ line.the_sync) (shr_send (named 15) κs.1.1.1.1.1.1.1.1.1.1.1.1.1.1.1.0 _ n) in
+    (shr_slice_send (named 14) κs.1.1.1.1.1.1.1.1.1.1.1.1.1.1.0 _ line.the_sync)
+    (shr_send (named 15) κs.1.1.1.1.1.1.1.1.1.1.1.1.1.1.1.0 _ n) in
     record { owned = λ x vs. s.owned x vs; leaving = λ k x w. s.leaving k x w }

@@ -9,11 +9,14 @@ loop-at-preserved g c = let e = c.args.engine.now in record {
   of = c.give.ensures.of;
   there = c.give.ensures.there;
   room = cc;
-  whole = rw (orders_next e c.args.orders.now c.index-orders-at.result c.loop-at-test.true (search rules)) (whole_then e c.loop-at.invariant.whole c.in_default.ensures.done);
+  whole = rw (orders_next e c.args.orders.now c.index-orders-at.result c.loop-at-test.true (search rules))
+      (whole_then e c.loop-at.invariant.whole c.in_default.ensures.done);
 }
 
 pub returns-in-Err-clause-done : goal.returns-in-Err-clause-done
 returns-in-Err-clause-done g c = let e = c.args.engine.now in let os = c.args.orders.now in let i = c.loop-at.at in let t = g.L.Link.told in
-    let two : IsStopped e (orders_acts e (take (i + 1) os)) c.args.pass.now c.give.new.pass (t c.args.link.now) (t c.give.new.link) c.args.lost.now c.give.new.lost c.in-Err.end =
-    rw (orders_next e os c.index-orders-at.result c.loop-at-test.true (search rules)) (stopped_then e c.loop-at.invariant.whole c.in-Err.ensures.done) in
+    let two : IsStopped e (orders_acts e (take (i + 1) os)) c.args.pass.now c.give.new.pass (t c.args.link.now) (t c.give.new.link)
+    c.args.lost.now c.give.new.lost c.in-Err.end =
+    rw (orders_next e os c.index-orders-at.result c.loop-at-test.true (search rules))
+    (stopped_then e c.loop-at.invariant.whole c.in-Err.ensures.done) in
     rw (← orders_rest e os (i + 1)) (stopped_less e (orders_acts e (drop (i + 1) os)) two)

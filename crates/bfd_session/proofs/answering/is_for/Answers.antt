@@ -1,5 +1,6 @@
 -- What was read is what the payload holds, so M is set in both or in neither.
-use Rattle.bfd_session.proofs.Common.{rules, ◌≡◌, Bool, true, false, refl, subst, Option, None, Some, IsTrue, ◌↔◌, Ok, Arrival, Port, Control, Test, fields_of, first_failing, read_of, unless, IsFor}
+use Rattle.bfd_session.proofs.Common.{rules, ◌≡◌, Bool, true, false, refl, subst, Option, None, Some, IsTrue, ◌↔◌, Ok, Arrival, Port}
+use Rattle.bfd_session.proofs.Common.{Control, Test, fields_of, first_failing, read_of, unless, IsFor}
 use mathlib.Core.Bool.{beq}
 use Rattle.bfd_session.proofs.answering.is_for.Goals as goal
 

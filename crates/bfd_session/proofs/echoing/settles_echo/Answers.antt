@@ -1,5 +1,7 @@
 -- An Echo function that nothing is due of, or that fails, is left as it is; and after a failure the session isn't Up.
-use Rattle.bfd_session.proofs.Common.{rules, ◌≡◌, ℕ, Bool, true, false, List, refl, ap, ◌∙◌, subst, Option, Some, if◌then◌else◌, Down, Config, Vars, Course, course, changes, moves, failed, Echo, EchoResult, outcome, has_failed, is_sending, IsEchoOver, should_echo, interval_of, settles_echo, flow}
+use Rattle.bfd_session.proofs.Common.{rules, ◌≡◌, ℕ, Bool, true, false, List, refl, ap, ◌∙◌, subst, Option, Some, if◌then◌else◌, Down}
+use Rattle.bfd_session.proofs.Common.{Config, Vars, Course, course, changes, moves, failed, Echo, EchoResult, outcome, has_failed}
+use Rattle.bfd_session.proofs.Common.{is_sending, IsEchoOver, should_echo, interval_of, settles_echo, flow}
 use Rattle.bfd_echo.specs.Rules.{settled}
 use Rattle.bfd_session.proofs.Renewing.{renewed_state}
 use Rattle.bfd_session.proofs.Starting.{down_silent}
@@ -23,7 +25,8 @@ unsent true sending bytes before after h = refl
 unsent false true bytes before after h = cc
 unsent false false bytes before after h = refl
 
-stays : (limit eff interval mult discr : ℕ) (e : Echo) → outcome limit interval mult discr e ≡ EchoResult.Nothing → settled limit eff interval mult e ≡ e
+stays : (limit eff interval mult discr : ℕ) (e : Echo) → outcome limit interval mult discr e ≡ EchoResult.Nothing
+    → settled limit eff interval mult e ≡ e
 unfolding outcome settled
 stays limit eff interval mult discr e h = unsent (has_failed limit interval mult e) (is_sending limit interval e) _ e _ h
 
@@ -34,7 +37,8 @@ unsent_failed true sending bytes before after h = refl
 unsent_failed false true bytes before after h = cc
 unsent_failed false false bytes before after h = cc
 
-stays_failed : (limit eff interval mult discr : ℕ) (e : Echo) → outcome limit interval mult discr e ≡ EchoResult.Failed → settled limit eff interval mult e ≡ e
+stays_failed : (limit eff interval mult discr : ℕ) (e : Echo) → outcome limit interval mult discr e ≡ EchoResult.Failed
+    → settled limit eff interval mult e ≡ e
 unfolding outcome settled
 stays_failed limit eff interval mult discr e h = unsent_failed (has_failed limit interval mult e) (is_sending limit interval e) _ e _ h
 
@@ -65,7 +69,8 @@ returns-in-Nothing-clause-flow c = λ next.
     let s : Vars → Course = λ w. course w c.args.mark.now c.args.outs.now.items in
     let at = nothing_at k c.args.limit c.args.eff c.interval_of.result (s v) c.in-Some.running c.settle.new.self c.args.echo.now next
     c.interval_of.ensures (search rules) c.in-Some.is (cc (c.in-Nothing.is)) c.settle.ensures.value in
-    rw (← c.config-c.ensures.value) (subst (λ (w : Vars). flow (s w) (Some c.settle.new.self) next ≡ settles_echo k c.args.limit c.args.eff (flow (s w) c.args.echo.now next)) c.vars-v.ensures.value at)
+    rw (← c.config-c.ensures.value) (subst (λ (w : Vars). flow (s w) (Some c.settle.new.self) next
+    ≡ settles_echo k c.args.limit c.args.eff (flow (s w) c.args.echo.now next)) c.vars-v.ensures.value at)
 
 pub returns-in-Failed-clause-flow : goal.returns-in-Failed-clause-flow
 returns-in-Failed-clause-flow c = λ next.
@@ -77,7 +82,8 @@ returns-in-Failed-clause-flow c = λ next.
     rw c.vars-v.ensures.value (rw c.config-c.ensures.value c.fail.ensures.course) in
     let at = failed_at k c.args.limit c.args.eff c.interval_of.result (s v) after c.in-Some.running c.settle.new.self c.args.echo.now next
     c.interval_of.ensures (search rules) c.in-Some.is (cc (c.in-Failed.is)) c.settle.ensures.value fails in
-    rw (← c.config-c.ensures.value) (subst (λ (w : Vars). flow after (Some c.settle.new.self) next ≡ settles_echo k c.args.limit c.args.eff (flow (s w) c.args.echo.now next)) c.vars-v.ensures.value at)
+    rw (← c.config-c.ensures.value) (subst (λ (w : Vars). flow after (Some c.settle.new.self) next
+    ≡ settles_echo k c.args.limit c.args.eff (flow (s w) c.args.echo.now next)) c.vars-v.ensures.value at)
 
 pub returns-in-Failed-clause-over : goal.returns-in-Failed-clause-over
 returns-in-Failed-clause-over c = λ reached. down_over c.args.limit c.fail.new.self.config c.fail.new.self.vars (Some c.settle.new.self)

@@ -6,5 +6,6 @@ use Rattle.bfd_session.proofs.pair.finishes.Goals as goal
 pub returns-clause-echo_over : goal.returns-clause-echo_over
 returns-clause-echo_over c = λ limit reached over.
     let here : IsEchoOver limit c.args.p.now.config c.finish.new.self.vars c.args.echo.now =
-    rw c.finish.ensures.vars (finish_keeps_echo c.args.p.now.config limit c.args.eff (course c.args.p.now.vars c.args.mark c.args.outs.now.items) c.args.echo.now over) in
+    rw c.finish.ensures.vars (finish_keeps_echo c.args.p.now.config limit c.args.eff
+    (course c.args.p.now.vars c.args.mark c.args.outs.now.items) c.args.echo.now over) in
     c.turns_echo.ensures.over limit reached (rw c.finish.ensures.config here)

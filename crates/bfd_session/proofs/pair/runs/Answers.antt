@@ -9,7 +9,8 @@ within false finished a one two none more = omega (arith, a, one refl, more)
 
 pub returns-clause-spare : goal.returns-clause-spare
 returns-clause-spare c = within c.acts-answer.new.mark.answered c.finishes.new.outs.spare
-    c.settles.ensures.spare c.acts-answer.ensures.unanswered c.acts-answer.ensures.spare c.finishes.ensures.answered c.finishes.ensures.spare
+    c.settles.ensures.spare c.acts-answer.ensures.unanswered c.acts-answer.ensures.spare c.finishes.ensures.answered
+    c.finishes.ensures.spare
 
 pub returns-then-hears_again-clause-sound : goal.returns-then-hears_again-clause-sound
 returns-then-hears_again-clause-sound c = c.if-hears_again.ensures.sound refl c.args.next.now

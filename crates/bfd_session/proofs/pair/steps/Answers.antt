@@ -13,8 +13,10 @@ returns-clause-session c =
     (c.runs.ensures.next ∙ step_number s c.args.eff c.args.event.now c.args.outs.now.items)
 
 pub returns-clause-outs : goal.returns-clause-outs
-returns-clause-outs c = c.runs.ensures.outs ∙ step_outs (pair_of c.args.p.now c.args.echo.now c.args.next.now) c.args.eff c.args.event.now c.args.outs.now.items
+returns-clause-outs c = c.runs.ensures.outs ∙ step_outs (pair_of c.args.p.now c.args.echo.now c.args.next.now) c.args.eff c.args.event.now
+    c.args.outs.now.items
 
 pub returns-clause-answer : goal.returns-clause-answer
 returns-clause-answer c =
-    c.runs.ensures.answer ∙ reply_law (pair_of c.args.p.now c.args.echo.now c.args.next.now) c.args.eff c.args.event.now c.args.outs.now.items
+    c.runs.ensures.answer ∙ reply_law (pair_of c.args.p.now c.args.echo.now c.args.next.now) c.args.eff c.args.event.now
+    c.args.outs.now.items

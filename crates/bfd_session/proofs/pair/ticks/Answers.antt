@@ -14,8 +14,10 @@ returns-clause-session c =
     (c.passes.ensures.next ∙ tick_number s c.args.limit c.args.eff c.args.outs.now.items)
 
 pub returns-clause-outs : goal.returns-clause-outs
-returns-clause-outs c = c.passes.ensures.outs ∙ tick_outs (pair_of c.args.p.now c.args.echo.now c.args.next.now) c.args.limit c.args.eff c.args.outs.now.items
+returns-clause-outs c = c.passes.ensures.outs ∙ tick_outs (pair_of c.args.p.now c.args.echo.now c.args.next.now) c.args.limit c.args.eff
+    c.args.outs.now.items
 
 pub returns-clause-over : goal.returns-clause-over
 returns-clause-over c = λ t at reached.
-    pair_over c.passes.new.p c.passes.new.echo c.passes.new.next c.args.limit t at (c.passes.ensures.over reached) (c.passes.ensures.echo_over reached)
+    pair_over c.passes.new.p c.passes.new.echo c.passes.new.next c.args.limit t at (c.passes.ensures.over reached)
+    (c.passes.ensures.echo_over reached)

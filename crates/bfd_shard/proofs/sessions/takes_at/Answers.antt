@@ -1,9 +1,12 @@
 -- The session at a place takes the event exactly where its configuration says so.
-use Rattle.bfd_shard.proofs.Common.{◌≡◌, ◌<◌, ℕ, zero, suc, length, get_or, [], ◌∷◌, arith, Bool, true, false, List, ap, sym, ◌∙◌, Option, None, Some, IsTrue, ◌↔◌, slice_get, nat_lt, unwrap_or, option_map, SessionConfig, Event, Running, configs_of, CanTake, IsTaken, nat_tests, slice_get-map, slice_get_past}
+use Rattle.bfd_shard.proofs.Common.{◌≡◌, ◌<◌, ℕ, zero, suc, length, get_or, [], ◌∷◌, arith, Bool, true, false, List, ap, sym, ◌∙◌, Option}
+use Rattle.bfd_shard.proofs.Common.{None, Some, IsTrue, ◌↔◌, slice_get, nat_lt, unwrap_or, option_map, SessionConfig, Event, Running}
+use Rattle.bfd_shard.proofs.Common.{configs_of, CanTake, IsTaken, nat_tests, slice_get-map, slice_get_past}
 use Rattle.bfd_shard.proofs.sessions.takes_at.Goals as goal
 
 -- the configuration at a session's place is the session's
-config_at : (ss : List Running) (k : ℕ) {found : Option Running} → slice_get ss k ≡ found → slice_get (configs_of ss) k ≡ option_map (λ s. s.config) found
+config_at : (ss : List Running) (k : ℕ) {found : Option Running} → slice_get ss k ≡ found
+    → slice_get (configs_of ss) k ≡ option_map (λ s. s.config) found
 config_at ss k e = cc (slice_get-map (λ s. s.config) ss k)
 
 -- what a look at a place gives
@@ -33,7 +36,9 @@ untaken ss k event e = (λ h. cc, λ h. none_there (sym h.there ∙ config_at ss
 
 pub returns-in-Some : goal.returns-in-Some
 returns-in-Some c =
-    taken c.args.sessions.now c.args.place c.args.event.now c.takes.result (present c.args.sessions.now c.args.place c.in-Some.ensures.lookup.0 c.in-Some.ensures.lookup.1) c.takes.ensures
+    taken c.args.sessions.now c.args.place c.args.event.now c.takes.result
+    (present c.args.sessions.now c.args.place c.in-Some.ensures.lookup.0 c.in-Some.ensures.lookup.1) c.takes.ensures
 
 pub returns-in-None : goal.returns-in-None
-returns-in-None c = untaken c.args.sessions.now c.args.place c.args.event.now (absent c.args.sessions.now c.args.place c.in-None.ensures.lookup.0)
+returns-in-None c = untaken c.args.sessions.now c.args.place c.args.event.now
+    (absent c.args.sessions.now c.args.place c.in-None.ensures.lookup.0)

@@ -27,6 +27,7 @@ pub join_mut-told-requires-send-F : goal.join_mut-told-requires-send-F
 join_mut-told-requires-send-F g c κs within =
     let s = captures_send ty_unit (codes "bfd_thread_tests::clients::fn::beside::worked+Self") _ _ _ _
     (shr_send (named 5) κs.1.1.1.1.1.1.1.1.0 _ c.type_bounds.sync-R) (shr_send (named 6) κs.1.1.1.1.1.1.1.1.1.0 _ heap.sync)
-    (shr_send (named 7) κs.1.1.1.1.1.1.1.1.1.1.0 _ (engine_sync (param 0 g.row.W) g.W.Timers g.W.Timers-dict g.W.Destruct-dict c.type_bounds.send-W))
+    (shr_send (named 7) κs.1.1.1.1.1.1.1.1.1.1.0 _ (engine_sync (param 0 g.row.W) g.W.Timers g.W.Timers-dict g.W.Destruct-dict
+    c.type_bounds.send-W))
     (mut_slice_send (named 8) κs.1.1.1.1.1.1.1.1.1.1.1.0 _ job.the_send) in
     record { owned = λ x vs. s.owned x vs; leaving = λ k x w. s.leaving k x w }

@@ -18,7 +18,8 @@ pub bounds-nodes-cur : goal.bounds-nodes-cur
 bounds-nodes-cur c = omega arith
 
 pub visit-requires-clause-linked : goal.visit-requires-clause-linked
-visit-requires-clause-linked c = linked c.loop.invariant.walk.wheel (walk_id c.loop.invariant.walk c.if-cur-head.false) c.loop.invariant.walk.on.there
+visit-requires-clause-linked c = linked c.loop.invariant.walk.wheel (walk_id c.loop.invariant.walk c.if-cur-head.false)
+    c.loop.invariant.walk.on.there
 
 pub loop-preserved : goal.loop-preserved
 unfolding next_in
@@ -38,7 +39,8 @@ returns-then-cur-head-clause-took c = c.loop.invariant.took
 
 pub returns-then-cur-head-clause-left : goal.returns-then-cur-head-clause-left
 returns-then-cur-head-clause-left c = λ j near there at.
-    walk_ends _ _ _ _ _ _ _ _ c.loop.invariant.walk c.head_of-head.ensures.head (inl c.if-cur-head.true) j near there (at ∙ sym c.head_of-head.ensures.place)
+    walk_ends _ _ _ _ _ _ _ _ c.loop.invariant.walk c.head_of-head.ensures.head (inl c.if-cur-head.true) j near there
+    (at ∙ sym c.head_of-head.ensures.place)
 
 pub returns-clause-wheel : goal.returns-clause-wheel
 returns-clause-wheel c = c.loop.invariant.walk.wheel
@@ -48,4 +50,5 @@ returns-clause-took c = c.loop.invariant.took
 
 pub returns-clause-left : goal.returns-clause-left
 returns-clause-left c = λ j near there at.
-    walk_ends _ _ _ _ _ _ _ _ c.loop.invariant.walk c.head_of-head.ensures.head (inr c.loop-test.false) j near there (at ∙ sym c.head_of-head.ensures.place)
+    walk_ends _ _ _ _ _ _ _ _ c.loop.invariant.walk c.head_of-head.ensures.head (inr c.loop-test.false) j near there
+    (at ∙ sym c.head_of-head.ensures.place)

@@ -6,5 +6,6 @@ abbrev pub invariant-loop-id : goal.invariant-loop-id
 invariant-loop-id l = record {
   wheel : IsWheel (length l.initial.dues) l.now l.dues l.nodes;
   ids : (x : ℕ) → times x (drop l.id-index l.ids) ≡ counts_due l.t l.dues x;
-  same_or_gone : (j : ℕ) → (slice_index l.dues j ≡ slice_index l.initial.dues j) ⊎ ((slice_index l.dues j ≡ never) × (slice_index l.initial.dues j ≤ l.t));
+  same_or_gone : (j : ℕ) → (slice_index l.dues j ≡ slice_index l.initial.dues j) ⊎
+      ((slice_index l.dues j ≡ never) × (slice_index l.initial.dues j ≤ l.t));
 }

@@ -1,5 +1,6 @@
 -- What the parts of a run promise of the job is promised of the words that ask for it.
-use Rattle.bfdd.proofs.Common.{◌≡◌, ◌⊎◌, true, false, Some, inr, subst, sym, IfSome, Rose, Job, Memory, IsDecided, IsServedToFinish, edges_of, Wanted, wanted_of, is_reading, serves, Appends, TookFront, took_nothing}
+use Rattle.bfdd.proofs.Common.{◌≡◌, ◌⊎◌, true, false, Some, inr, subst, sym, IfSome, Rose, Job, Memory, IsDecided, IsServedToFinish}
+use Rattle.bfdd.proofs.Common.{edges_of, Wanted, wanted_of, is_reading, serves, Appends, TookFront, took_nothing}
 use Rattle.bfdd.specs.Telling.{IsTold}
 use Rattle.bfdd.proofs.Ending.{ended, ends_so, unopened}
 use Rattle.bfdd.proofs.Served.{finished, of_serving}
@@ -10,9 +11,11 @@ use Rattle.bfdd.proofs.running.run.Goals as goal
 -- the answer was written
 
 pub returns-in-Ok-clause-decided : goal.returns-in-Ok-clause-decided
-returns-in-Ok-clause-decided g c = of_job (g.S.Source.left c.args.source.now) (λ w. IsDecided c.write_answer.result w.status) (sym c.in-Some.ensures.value)
+returns-in-Ok-clause-decided g c = of_job (g.S.Source.left c.args.source.now) (λ w. IsDecided c.write_answer.result w.status)
+    (sym c.in-Some.ensures.value)
     (of_answer (wanted_of c.in-Some.job (g.S.Source.left c.args.source.now))
-    (λ w. IsDecided c.write_answer.result w.status) c.in-Ok.ensures.answer (decided _ _ _ _ _ _ c.in-Ok.ensures.sound c.write_answer.ensures))
+    (λ w. IsDecided c.write_answer.result w.status) c.in-Ok.ensures.answer
+    (decided _ _ _ _ _ _ c.in-Ok.ensures.sound c.write_answer.ensures))
 
 pub returns-in-Ok-clause-done : goal.returns-in-Ok-clause-done
 returns-in-Ok-clause-done g c = λ done.
@@ -39,13 +42,18 @@ returns-in-Ok-clause-complete g c = λ source_calm sink_calm.
 
 pub returns-in-Ok-clause-fits : goal.returns-in-Ok-clause-fits
 returns-in-Ok-clause-fits g c =
-    rw (← c.in-Some.ensures.value) (ended (Some c.in-Some.job) c.write_answer.result c.in-Ok.answer.status (decided _ _ _ _ _ _ c.in-Ok.ensures.sound c.write_answer.ensures)
+    rw (← c.in-Some.ensures.value) (ended (Some c.in-Some.job) c.write_answer.result c.in-Ok.answer.status
+    (decided _ _ _ _ _ _ c.in-Ok.ensures.sound c.write_answer.ensures)
     (no_read_fault _ _ _ _ _ _ c.in-Ok.ensures.sound c.write_answer.ensures)
-    (ends_so c.in-Some.job (g.S.Source.left c.args.source.now) (g.S.Source.left c.answer_to_job.new.source) (edges_of (g.P.Ports.told c.args.ports.now) (g.T.Ticker.told c.args.ticker.now)) (edges_of (g.P.Ports.told c.answer_to_job.new.ports) (g.T.Ticker.told c.answer_to_job.new.ticker)) c.in-Ok.answer c.in-Ok.ensures.tells))
+    (ends_so c.in-Some.job (g.S.Source.left c.args.source.now) (g.S.Source.left c.answer_to_job.new.source)
+    (edges_of (g.P.Ports.told c.args.ports.now) (g.T.Ticker.told c.args.ticker.now)) (edges_of (g.P.Ports.told c.answer_to_job.new.ports)
+    (g.T.Ticker.told c.answer_to_job.new.ticker)) c.in-Ok.answer c.in-Ok.ensures.tells))
 
 pub returns-in-Ok-clause-told : goal.returns-in-Ok-clause-told
 returns-in-Ok-clause-told g c = λ memory source.
-    let P : Job → Type 0 = λ job. IsTold job (g.S.Source.left c.args.source.now) (g.S.Source.left c.answer_to_job.new.source) (edges_of (g.P.Ports.told c.args.ports.now) (g.T.Ticker.told c.args.ticker.now)) (edges_of (g.P.Ports.told c.answer_to_job.new.ports) (g.T.Ticker.told c.answer_to_job.new.ticker)) (g.K.Sink.taken c.args.sink.now) (g.K.Sink.taken c.write_answer.new.sink)
+    let P : Job → Type 0 = λ job. IsTold job (g.S.Source.left c.args.source.now) (g.S.Source.left c.answer_to_job.new.source)
+    (edges_of (g.P.Ports.told c.args.ports.now) (g.T.Ticker.told c.args.ticker.now)) (edges_of (g.P.Ports.told c.answer_to_job.new.ports)
+    (g.T.Ticker.told c.answer_to_job.new.ticker)) (g.K.Sink.taken c.args.sink.now) (g.K.Sink.taken c.write_answer.new.sink)
     (g.K.Sink.faults c.args.sink.now) (g.K.Sink.faults c.write_answer.new.sink) c.write_answer.result in
     let told : P c.in-Some.job = record {
       w = c.in-Ok.answer;
@@ -67,11 +75,13 @@ returns-in-Ok-clause-finished g c =
     finished c.in-Some.job left (g.S.Source.left c.answer_to_job.new.source) old new c.in-Ok.answer
     (settled c.write_answer.result (decided _ _ _ _ _ _ c.in-Ok.ensures.sound c.write_answer.ensures)
     (no_read_fault _ _ _ _ _ _ c.in-Ok.ensures.sound c.write_answer.ensures)
-    (λ failed. sink_calm (write_fault _ _ _ _ _ _ c.in-Ok.ensures.sound c.write_answer.ensures failed))) ports_calm c.in-Ok.ensures.tells serving in
+    (λ failed. sink_calm (write_fault _ _ _ _ _ _ c.in-Ok.ensures.sound c.write_answer.ensures failed))) ports_calm c.in-Ok.ensures.tells
+    serving in
     rw (← c.in-Some.ensures.value) (of_serving c.in-Some.job P done)
 
 pub returns-in-Ok-clause-end : goal.returns-in-Ok-clause-end
-returns-in-Ok-clause-end g c = λ done reading. c.in-Ok.ensures.end (done_wanted (decided _ _ _ _ _ _ c.in-Ok.ensures.sound c.write_answer.ensures) done)
+returns-in-Ok-clause-end g c = λ done reading. c.in-Ok.ensures.end
+    (done_wanted (decided _ _ _ _ _ _ c.in-Ok.ensures.sound c.write_answer.ensures) done)
     (subst (λ given. is_reading given ≡ true) (sym c.in-Some.ensures.value) reading)
 
 pub returns-in-Ok-clause-usage_alone : goal.returns-in-Ok-clause-usage_alone
@@ -79,7 +89,8 @@ returns-in-Ok-clause-usage_alone g c = λ usage. absurd (no_usage _ _ _ _ _ _ c.
 
 pub returns-in-Ok-clause-bad_text : goal.returns-in-Ok-clause-bad_text
 returns-in-Ok-clause-bad_text g c =
-    bad_text c.in-Ok.answer c.write_answer.result _ _ _ _ c.in-Ok.ensures.sound (decided _ _ _ _ _ _ c.in-Ok.ensures.sound c.write_answer.ensures) (written _ _ _ _ _ _ c.in-Ok.ensures.sound c.write_answer.ensures)
+    bad_text c.in-Ok.answer c.write_answer.result _ _ _ _ c.in-Ok.ensures.sound
+    (decided _ _ _ _ _ _ c.in-Ok.ensures.sound c.write_answer.ensures) (written _ _ _ _ _ _ c.in-Ok.ensures.sound c.write_answer.ensures)
 
 pub returns-in-Ok-clause-unwritten : goal.returns-in-Ok-clause-unwritten
 returns-in-Ok-clause-unwritten g c = unwritten _ _ _ _ _ _ c.in-Ok.ensures.sound c.write_answer.ensures
@@ -95,14 +106,23 @@ returns-in-Ok-clause-calm_sink g c = calm _ _ _ _ _ _ c.in-Ok.ensures.sound c.wr
 
 pub returns-in-Ok-clause-broken_off : goal.returns-in-Ok-clause-broken_off
 returns-in-Ok-clause-broken_off g c = λ memory.
-    inr (c.in-Some.job, sym c.in-Some.ensures.value, c.in-Ok.answer, c.in-Ok.ensures.tells, front _ _ _ _ _ _ c.in-Ok.ensures.sound c.write_answer.ensures)
+    inr (
+      c.in-Some.job,
+      sym c.in-Some.ensures.value,
+      c.in-Ok.answer,
+      c.in-Ok.ensures.tells,
+      front _ _ _ _ _ _ c.in-Ok.ensures.sound c.write_answer.ensures,
+    )
 
 pub returns-in-Ok-clause-unopened : goal.returns-in-Ok-clause-unopened
 returns-in-Ok-clause-unopened g c =
     let old = edges_of (g.P.Ports.told c.args.ports.now) (g.T.Ticker.told c.args.ticker.now) in
-    let idle : serves c.in-Some.job ≡ false → (edges_of (g.P.Ports.told c.answer_to_job.new.ports) (g.T.Ticker.told c.answer_to_job.new.ticker)) ≡ old = λ closed. let same = c.answer_to_job.ensures.idle closed in cc in
-    unopened c.in-Some.job (g.S.Source.left c.args.source.now) (g.S.Source.left c.answer_to_job.new.source) c.in-Ok.answer c.write_answer.result
-    (decided _ _ _ _ _ _ c.in-Ok.ensures.sound c.write_answer.ensures) (no_read_fault _ _ _ _ _ _ c.in-Ok.ensures.sound c.write_answer.ensures) idle c.in-Ok.ensures.tells
+    let idle : serves c.in-Some.job ≡ false → (edges_of (g.P.Ports.told c.answer_to_job.new.ports)
+    (g.T.Ticker.told c.answer_to_job.new.ticker)) ≡ old = λ closed. let same = c.answer_to_job.ensures.idle closed in cc in
+    unopened c.in-Some.job (g.S.Source.left c.args.source.now) (g.S.Source.left c.answer_to_job.new.source) c.in-Ok.answer
+    c.write_answer.result
+    (decided _ _ _ _ _ _ c.in-Ok.ensures.sound c.write_answer.ensures)
+    (no_read_fault _ _ _ _ _ _ c.in-Ok.ensures.sound c.write_answer.ensures) idle c.in-Ok.ensures.tells
 
 -- the source failed
 

@@ -8,5 +8,7 @@ use Rattle.bfd_c.proofs.engine.Engine.add_reflector.Goals as goal
 
 pub returns-clause-memory : goal.returns-clause-memory
 returns-clause-memory c = λ two. rw (← c.self.view_is)
-    (memory_last (reflector_fault c.args.reflector c.self.inside.world.world) c.in-Err.fault (world_with_reflector c.args.reflector c.self.inside.world.world) c.self.inside.world.records _
-    c.in-Err.ensures.fault (no_memory (row_of_reflector c.args.reflector) (table_of (configs_of c.self.inside.world.world.sessions) c.self.inside.world.world.pool)) (sym c.add_code.ensures ∙ two))
+    (memory_last (reflector_fault c.args.reflector c.self.inside.world.world) c.in-Err.fault
+    (world_with_reflector c.args.reflector c.self.inside.world.world) c.self.inside.world.records _
+    c.in-Err.ensures.fault (no_memory (row_of_reflector c.args.reflector)
+    (table_of (configs_of c.self.inside.world.world.sessions) c.self.inside.world.world.pool)) (sym c.add_code.ensures ∙ two))

@@ -49,7 +49,8 @@ demux_send : IsSend Demux.the_row
 demux_send = view_send _ _ _ _ _ (declared_send selecting.the_type (
   listed.the_send Row.the_row,
   (
-    Vec-send _ (declared_send (tuple_type (Name.the_row ∷ Choice.the_row Port.the_row ∷ [])) (name.the_send, (search (sendable, crosses) depth 20, tt))),
+    Vec-send _ (declared_send (tuple_type (Name.the_row ∷ Choice.the_row Port.the_row ∷ []))
+        (name.the_send, (search (sendable, crosses) depth 20, tt))),
     (
       Vec-send _ (declared_send (tuple_type (RowKind.the_row ∷ u32 ∷ [])) (kind.the_send, (search (sendable, crosses) depth 20, tt))),
       (search (sendable, crosses) depth 20, (ends.the_send, (ends.the_send, tt))),
@@ -58,7 +59,8 @@ demux_send = view_send _ _ _ _ _ (declared_send selecting.the_type (
 ))
 
 roster_send : IsSend Roster.the_row
-roster_send = view_send _ _ _ _ _ (declared_send roster.the_type (search (sendable, crosses) depth 20, (listed.the_send SessionConfig.the_row, tt)))
+roster_send = view_send _ _ _ _ _ (declared_send roster.the_type
+    (search (sendable, crosses) depth 20, (listed.the_send SessionConfig.the_row, tt)))
 
 table_send : IsSend Table.the_row
 table_send = view_send _ _ _ _ _ (declared_send table.the_type (demux_send, (roster_send, (Vec-send _ reflector.the_send, tt))))
@@ -73,7 +75,8 @@ recorded_send : IsSend (Recorded.the_row ByCount.the_row ghosts)
 recorded_send = view_send _ _ _ _ _ (declared_send (recorded.the_type ByCount.the_row ghosts) (world_send, (Vec-send _ kept.the_send, tt)))
 
 held : IsSend Held.the_row
-held = view_send _ _ _ _ _ (declared_send inside.the_type (recorded_send, (search (sendable, crosses) depth 20, (answer.the_send, (search (sendable, crosses) depth 20, tt)))))
+held = view_send _ _ _ _ _ (declared_send inside.the_type
+    (recorded_send, (search (sendable, crosses) depth 20, (answer.the_send, (search (sendable, crosses) depth 20, tt)))))
 
 keyless : (a : Global) (p : Ptr) (h : Option (Held.the_row).Denot) → Keyless (kept_owns a p h)
 keyless a p None = tt

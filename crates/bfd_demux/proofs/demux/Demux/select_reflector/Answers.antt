@@ -12,14 +12,20 @@ returns-then-your-eq0 g c = record {
 
 pub returns-in-Some : goal.returns-in-Some
 returns-in-Some g c = record {
-  tests = ap (λ b. if b then None else Some YourUnknown) c.in-Some.ensures.known ∙ reflects (knows c.args.self.now SbfdPort c.args.your) c.if-your-eq0.false;
-  target = (c.if-your-eq0.false, to_reflector c.args.self.now (the_one (row_has_discr SbfdPort c.args.your) c.args.self.now) c.in-Some.ensures.found);
+  tests = ap (λ b. if b then None else Some YourUnknown) c.in-Some.ensures.known
+      ∙ reflects (knows c.args.self.now SbfdPort c.args.your) c.if-your-eq0.false;
+  target = (
+    c.if-your-eq0.false,
+    to_reflector c.args.self.now (the_one (row_has_discr SbfdPort c.args.your) c.args.self.now)
+        c.in-Some.ensures.found,
+  );
   cost = c.in-Some.ensures.cost;
 }
 
 pub returns-in-None : goal.returns-in-None
 returns-in-None g c = record {
-  tests = ap (λ b. if b then None else Some YourUnknown) c.in-None.ensures.known ∙ reflects (knows c.args.self.now SbfdPort c.args.your) c.if-your-eq0.false;
+  tests = ap (λ b. if b then None else Some YourUnknown) c.in-None.ensures.known
+      ∙ reflects (knows c.args.self.now SbfdPort c.args.your) c.if-your-eq0.false;
   target = tt;
   cost = c.in-None.ensures.cost;
 }

@@ -1,5 +1,6 @@
 use Rattle.bfd_demux.proofs.Common.{arith, sym}
-use Rattle.bfd_demux.proofs.Selecting.{your_known, your_unknown, your_named, heard_without_your, no_session, addresses_known, addresses_unknown, addresses_named, addressed_kind}
+use Rattle.bfd_demux.proofs.Selecting.{your_known, your_unknown, your_named, heard_without_your, no_session, addresses_known}
+use Rattle.bfd_demux.proofs.Selecting.{addresses_unknown, addresses_named, addressed_kind}
 use Rattle.bfd_demux.proofs.demux.Demux.select_session.Goals as goal
 
 pub returns-in-Some : goal.returns-in-Some
@@ -20,7 +21,8 @@ returns-in-None g c = record {
 
 pub returns-then-is_init_or_up : goal.returns-then-is_init_or_up
 returns-then-is_init_or_up g c = record {
-  tests = heard_without_your c.args.port c.args.packet.now c.args.selector c.args.self.now c.if-packet-ne0.false (sym c.if-is_init_or_up.ensures);
+  tests = heard_without_your c.args.port c.args.packet.now c.args.selector c.args.self.now c.if-packet-ne0.false
+      (sym c.if-is_init_or_up.ensures);
   target = tt;
   cost = omega arith;
   one_lookup = λ some. absurd (some c.if-packet-ne0.false);
@@ -41,7 +43,8 @@ pub returns-in-Some-by_addresses : goal.returns-in-Some-by_addresses
 returns-in-Some-by_addresses g c = record {
   tests = addresses_known c.args.port c.args.packet.now c.args.self.now c.if-packet-ne0.false
       (sym c.if-is_init_or_up.ensures) c.in-Some-selector.is (sym c.in-Some-by_addresses.ensures.known);
-  target = addresses_named c.args.port c.args.packet.now c.args.self.now c.if-packet-ne0.false c.in-Some-selector.is c.in-Some-by_addresses.ensures.found;
+  target = addresses_named c.args.port c.args.packet.now c.args.self.now c.if-packet-ne0.false c.in-Some-selector.is
+      c.in-Some-by_addresses.ensures.found;
   cost = c.in-Some-by_addresses.ensures.cost;
   one_lookup = λ some. absurd (some c.if-packet-ne0.false);
 }

@@ -14,14 +14,16 @@ by_addresses-requires g c = c.requires
 
 pub returns-in-Some : goal.returns-in-Some
 returns-in-Some g c = record {
-  tests = ap (λ b. if b then None else Some NoTail) c.in-Some.ensures.known ∙ tail_heard (list_any (row_has_selector (Some c.args.kind)) c.args.self.now) c.if-your-ne0.false;
+  tests = ap (λ b. if b then None else Some NoTail) c.in-Some.ensures.known
+      ∙ tail_heard (list_any (row_has_selector (Some c.args.kind)) c.args.self.now) c.if-your-ne0.false;
   target = to_session c.args.self.now (the_one (row_has_selector (Some c.args.kind)) c.args.self.now) c.in-Some.ensures.found;
   cost = c.in-Some.ensures.cost;
 }
 
 pub returns-in-None : goal.returns-in-None
 returns-in-None g c = record {
-  tests = ap (λ b. if b then None else Some NoTail) c.in-None.ensures.known ∙ tail_heard (list_any (row_has_selector (Some c.args.kind)) c.args.self.now) c.if-your-ne0.false;
+  tests = ap (λ b. if b then None else Some NoTail) c.in-None.ensures.known
+      ∙ tail_heard (list_any (row_has_selector (Some c.args.kind)) c.args.self.now) c.if-your-ne0.false;
   target = tt;
   cost = c.in-None.ensures.cost;
 }

@@ -7,7 +7,8 @@ pub returns-clause-after : goal.returns-clause-after
 returns-clause-after c =
     let answer = c.heard_at-received.result in
     rw (c.items_of.ensures, c.note_received.ensures)
-    (told_more answer (heard_all c.self.inside.heard.items c.self.inside.at answer (rw c.deref.ensures.value at c.heard_at-received.ensures)).0 (ap (λ link. told_of link) (sym c.self.view_is)))
+    (told_more answer (heard_all c.self.inside.heard.items c.self.inside.at answer
+    (rw c.deref.ensures.value at c.heard_at-received.ensures)).0 (ap (λ link. told_of link) (sym c.self.view_is)))
 
 pub returns-clause-answer : goal.returns-clause-answer
 returns-clause-answer c =

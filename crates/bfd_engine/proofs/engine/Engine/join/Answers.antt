@@ -5,7 +5,8 @@ use Rattle.bfd_engine.proofs.engine.Engine.join.Goals as goal
 
 pub join_at-requires-clause-here : goal.join_at-requires-clause-here
 join_at-requires-clause-here g c =
-    theirs_there c.args.other.0 c.loop-at.at c.args.first.now.1 c.args.other.1 c.loop-at.first.1 c.loop-at.other.1 c.loop-at.invariant.glued c.requires.there.1
+    theirs_there c.args.other.0 c.loop-at.at c.args.first.now.1 c.args.other.1 c.loop-at.first.1 c.loop-at.other.1 c.loop-at.invariant.glued
+    c.requires.there.1
     (let v = ap (λ e. length e.locks) c.self.view_is in omega (arith, c.len-at-end.ensures, c.loop-at-test.true, c.requires.of.1.long))
 
 pub loop-at-preserved : goal.loop-at-preserved
@@ -17,7 +18,8 @@ loop-at-preserved g c =
       number = c.join_at.ensures.numbers.0;
       theirs = cc;
       used = cc;
-      glued = glue_more c.args.other.0 c.loop-at.at c.args.first.now.1 c.args.other.1 c.loop-at.first.1 c.loop-at.other.1 c.join_at.new.first.1 c.join_at.new.other.1 i.glued
+      glued = glue_more c.args.other.0 c.loop-at.at c.args.first.now.1 c.args.other.1 c.loop-at.first.1 c.loop-at.other.1
+          c.join_at.new.first.1 c.join_at.new.other.1 i.glued
           (rw (← i.theirs) c.join_at.ensures.glued);
     }
 

@@ -13,14 +13,16 @@ lift-theirs-requires g c = c.requires.here
 
 pub join-requires-clause-first : goal.join-requires-clause-first
 join-requires-clause-first g c = (
-  sym (get_or_from_slice_get c.args.self.now.locks c.args.at c.lift-pass.result.0 c.index.result.now (c.requires.of.0.lock c.args.at c.lift-pass.result c.lift-pass.ensures.pass))
+  sym (get_or_from_slice_get c.args.self.now.locks c.args.at c.lift-pass.result.0 c.index.result.now
+      (c.requires.of.0.lock c.args.at c.lift-pass.result c.lift-pass.ensures.pass))
       ∙ (ap (λ e. get_or e.locks c.args.at c.index.result.now) (sym c.self.view_is) ∙ sym c.index.ensures),
   cc,
 )
 
 pub join-requires-clause-other : goal.join-requires-clause-other
 join-requires-clause-other g c = (
-  sym (get_or_from_slice_get c.args.self.now.locks c.args.at c.lift-theirs.result.0 c.index.result.now (c.requires.of.1.lock c.args.at c.lift-theirs.result c.lift-theirs.ensures.pass))
+  sym (get_or_from_slice_get c.args.self.now.locks c.args.at c.lift-theirs.result.0 c.index.result.now
+      (c.requires.of.1.lock c.args.at c.lift-theirs.result c.lift-theirs.ensures.pass))
       ∙ (ap (λ e. get_or e.locks c.args.at c.index.result.now) (sym c.self.view_is) ∙ sym c.index.ensures),
   λ e. c.requires.numbers.1 (cc),
 )
@@ -30,18 +32,28 @@ put-requires-clause-callers g c = rw c.lift-pass.ensures.rest (still c.join.new.
     (ap (λ x. x.1.number) c.join.ensures.first) (ap (λ x. x.1.made) c.join.ensures.first) c.lift-pass.ensures.callers)
 
 pub returns-clause-numbers : goal.returns-clause-numbers
-returns-clause-numbers g c =
-    (cc (put_back c.args.first.now c.lift-pass.new.self c.put.new.self c.args.at c.join.new.first c.lift-pass.ensures.rest c.put.ensures), cc)
+returns-clause-numbers g c = (
+  cc (put_back c.args.first.now c.lift-pass.new.self c.put.new.self c.args.at c.join.new.first c.lift-pass.ensures.rest c.put.ensures),
+  cc,
+)
 
 pub returns-clause-used : goal.returns-clause-used
-returns-clause-used g c = cc (put_back c.args.first.now c.lift-pass.new.self c.put.new.self c.args.at c.join.new.first c.lift-pass.ensures.rest c.put.ensures)
+returns-clause-used g c = cc (put_back c.args.first.now c.lift-pass.new.self c.put.new.self c.args.at c.join.new.first
+    c.lift-pass.ensures.rest c.put.ensures)
 
 pub returns-clause-glued : goal.returns-clause-glued
 returns-clause-glued g c =
-    subst (λ (k : Knows × Knows). GluesAt c.args.other.now.0 c.args.at c.args.first.now.1 c.args.other.now.1 k.0.1 k.1.1) (λ i. (sym (put_back c.args.first.now c.lift-pass.new.self c.put.new.self c.args.at c.join.new.first c.lift-pass.ensures.rest c.put.ensures) i, sym c.lift-theirs.ensures.rest i))
-    (glue_here c.args.other.now.0 c.args.at c.args.first.now.1 c.args.other.now.1 c.index.result.now c.lift-pass.result c.lift-theirs.result c.join.new.first
+    subst (λ (k : Knows × Knows). GluesAt c.args.other.now.0 c.args.at c.args.first.now.1 c.args.other.now.1 k.0.1 k.1.1)
+    (λ i. (
+      sym (put_back c.args.first.now c.lift-pass.new.self c.put.new.self c.args.at c.join.new.first c.lift-pass.ensures.rest
+          c.put.ensures) i,
+      sym c.lift-theirs.ensures.rest i,
+    ))
+    (glue_here c.args.other.now.0 c.args.at c.args.first.now.1 c.args.other.now.1 c.index.result.now c.lift-pass.result c.lift-theirs.result
+    c.join.new.first
     c.lift-pass.ensures.pass c.lift-theirs.ensures.pass c.lift-theirs.ensures.callers.number_is (record {
-      first_lock = cc (get_or_from_slice_get c.args.self.now.locks c.args.at c.lift-pass.result.0 c.index.result.now (c.requires.of.0.lock c.args.at c.lift-pass.result c.lift-pass.ensures.pass));
+      first_lock = cc (get_or_from_slice_get c.args.self.now.locks c.args.at c.lift-pass.result.0 c.index.result.now
+          (c.requires.of.0.lock c.args.at c.lift-pass.result c.lift-pass.ensures.pass));
       result_is = c.join.ensures.first;
       later = c.join.ensures.word.0;
       later_theirs = c.join.ensures.word.1;
@@ -52,13 +64,16 @@ returns-clause-glued g c =
 
 pub returns-clause-there : goal.returns-clause-there
 returns-clause-there g c =
-    subst AllThere (sym (ap (λ k. k.1) (put_back c.args.first.now c.lift-pass.new.self c.put.new.self c.args.at c.join.new.first c.lift-pass.ensures.rest c.put.ensures))) (there_set c.args.first.now.1 c.args.at c.join.new.first c.requires.there)
+    subst AllThere (sym (ap (λ k. k.1) (put_back c.args.first.now c.lift-pass.new.self c.put.new.self c.args.at c.join.new.first
+    c.lift-pass.ensures.rest c.put.ensures))) (there_set c.args.first.now.1 c.args.at c.join.new.first c.requires.there)
 
 pub returns-clause-of : goal.returns-clause-of
 returns-clause-of g c =
     let lock : c.lift-pass.result.0 ≡ c.index.result.now =
-    cc (get_or_from_slice_get c.args.self.now.locks c.args.at c.lift-pass.result.0 c.index.result.now (c.requires.of.0.lock c.args.at c.lift-pass.result c.lift-pass.ensures.pass)) in (
-      subst (IsOf c.args.self.now) (sym (ap (λ k. k.1) (put_back c.args.first.now c.lift-pass.new.self c.put.new.self c.args.at c.join.new.first c.lift-pass.ensures.rest c.put.ensures)))
+    cc (get_or_from_slice_get c.args.self.now.locks c.args.at c.lift-pass.result.0 c.index.result.now
+    (c.requires.of.0.lock c.args.at c.lift-pass.result c.lift-pass.ensures.pass)) in (
+      subst (IsOf c.args.self.now) (sym (ap (λ k. k.1) (put_back c.args.first.now c.lift-pass.new.self c.put.new.self c.args.at
+          c.join.new.first c.lift-pass.ensures.rest c.put.ensures)))
           (of_set c.args.self.now c.args.first.now.1 c.args.at c.lift-pass.result c.join.new.first c.lift-pass.ensures.pass
           (cc) (ap (λ x. x.1.base) c.join.ensures.first) c.requires.of.0),
       subst (IsOf c.args.self.now) (sym (ap (λ k. k.1) c.lift-theirs.ensures.rest))

@@ -14,7 +14,8 @@ engine_of-requires-clause-opened g c =
     let states = c.args.states.items in
     let shards = c.in_ok-shards.shards.items in
     let all = c.in_ok-shards.ensures in
-    let o = opened c.args.limit (map of states) shards (made_each c.args.limit of states shards (all_long shards all (search rules)) (λ k v d h e.
+    let o = opened c.args.limit (map of states) shards
+    (made_each c.args.limit of states shards (all_long shards all (search rules)) (λ k v d h e.
     let j = (c.in_ok-made.ensures.each k (Ok d) h).1 in
     made_at (IsMade c.args.limit (of v)) shards k d all (rw (← e, j.job_is v) j.call.met))) c.in_ok-opened.ensures in
     record {

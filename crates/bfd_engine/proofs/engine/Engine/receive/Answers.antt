@@ -33,7 +33,8 @@ returns-in-Answered-clause-judged g c =
 
 pub returns-in-Own-clause-call : goal.returns-in-Own-clause-call
 returns-in-Own-clause-call g c =
-    own_done c.args.self.now c.args.moment c.args.arrival c.args.pass.now c.own.new.pass c.args.outs.now.items c.own.new.outs.items c.own.result c.in-Own.k c.in-Own.event
+    own_done c.args.self.now c.args.moment c.args.arrival c.args.pass.now c.own.new.pass c.args.outs.now.items c.own.new.outs.items
+    c.own.result c.in-Own.k c.in-Own.event
     (subst (Comes c.args.arrival (Own c.in-Own.k c.in-Own.event)) c.self.view_is c.in-Own.ensures.coming) c.own.ensures.call
 
 pub returns-in-Own-clause-judged : goal.returns-in-Own-clause-judged

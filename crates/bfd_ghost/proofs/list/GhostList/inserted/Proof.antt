@@ -49,7 +49,13 @@ module _ (T : RattleType) where
   ended = F.ended T
 
   abbrev stayed : Stays ended.signature.params ended.kept
-  stayed = (stay_dropped (RefOf (0 ∷ []) tt (plain (λ _. GhostList.the_row (param 0 T))) (λ _. tt)) yes, (stay_dropped (RefOf (1 ∷ []) tt (plain (λ _. usize)) (λ _. tt)) yes, (stay_dropped (RefOf (2 ∷ []) tt (plain (λ _. param 0 T)) (λ _. tt)) yes, tt)))
+  stayed = (
+    stay_dropped (RefOf (0 ∷ []) tt (plain (λ _. GhostList.the_row (param 0 T))) (λ _. tt)) yes,
+    (
+      stay_dropped (RefOf (1 ∷ []) tt (plain (λ _. usize)) (λ _. tt)) yes,
+      (stay_dropped (RefOf (2 ∷ []) tt (plain (λ _. param 0 T)) (λ _. tt)) yes, tt),
+    ),
+  )
 
   module _ {M : Type 1} {𝓤 : Ura M} (𝓛 : Logic 𝓤) (at_mem : Memory → SProp 𝓤) (run : Routine → Fun 𝓤) where
     open 𝓛 use {H}
@@ -68,10 +74,12 @@ module _ (T : RattleType) where
       walks =
           let a = z.0.3 in
           let vss = z.0.4 in
-          let made : (GhostList.the_row (param 0 T)).Denot = record { of = record {}; items = insert a.0.now.items a.1.0.now a.1.1.0.now } in
+          let made : (GhostList.the_row (param 0 T)).Denot =
+          record { of = record {}; items = insert a.0.now.items a.1.0.now a.1.1.0.now } in
           qed 𝓛 ((raw toks ⊛ ‵ (owns (types_at ended.signature.params z.0.0) a vss)) ∷ raw ((held z.0.0 a).requires z.1) ∷ []) ∵
           keep ! (0 ∷ []) $ split ! $ move ! (1 ∷ []) $
-          fsplit ! $ fsplit ! $ feq_l ! (λ is₀. drop ! $ fsplit ! $ fsplit ! $ feq_l ! (λ is₁. drop ! $ fsplit ! $ fsplit ! $ feq_l ! (λ is₂. drop ! $ drop ! $
+          fsplit ! $ fsplit ! $ feq_l ! (λ is₀. drop ! $ fsplit ! $ fsplit ! $ feq_l !
+          (λ is₁. drop ! $ fsplit ! $ fsplit ! $ feq_l ! (λ is₂. drop ! $ drop ! $
           let p = vptr a.0.ref_ptr.0 a.0.ref_ptr.1 in
           let q = vptr a.1.0.ref_ptr.0 a.1.0.ref_ptr.1 in
           let r = vptr a.1.1.0.ref_ptr.0 a.1.1.0.ref_ptr.1 in
@@ -81,7 +89,8 @@ module _ (T : RattleType) where
           enter ! C Λ function (p ∷ q ∷ r ∷ []) Post $ alloc_all ! (λ l. pass_all ! refl ((tt, tt), ((tt, tt), ((tt, tt), tt))) $
           sets ! (agg ! (no_more !)) refl (tt, tt) $
           sets ! (agg ! (and_then ! (get ! refl) (no_more !))) refl (tt, (tt, tt)) $
-          nothing ! $ owned ! (Mark.the_row (param 0 T)) (Is (Mark.the_row (param 0 T))) (makes (Mark.the_type (param 0 T)) tt 𝓛) (record {}) (none ∷ []) (tt, (refl, tt)) $
+          nothing ! $ owned ! (Mark.the_row (param 0 T)) (Is (Mark.the_row (param 0 T))) (makes (Mark.the_type (param 0 T)) tt 𝓛)
+          (record {}) (none ∷ []) (tt, (refl, tt)) $
           one_made ! (Mark.the_row (param 0 T)) (record {}) none $ fjoin ! $
           returns ! (look_at ! 0 refl) $ free_all ! refl $
           suffices ! _ (ends_at 𝓛 ended stayed held z (one none) made (tt, (tt, (tt, tt))) (tt, (tt, (tt, tt)))) $ says ! refl $
@@ -89,7 +98,14 @@ module _ (T : RattleType) where
 
     meets : (𝓣 : Tables 𝓤 H) → Meets 𝓛 ended.signature (WpFn 𝓤 H 𝓣.C 𝓣.Λ function) (closing 𝓛 ended held)
     meets 𝓣 =
-        walk_Meets 𝓛 ended stayed (Goes-dropped 𝓛 4 (RefOf (0 ∷ []) tt (plain (λ _. GhostList.the_row (param 0 T))) (λ _. tt)) yes (λ κs x f. refl), (Goes-dropped 𝓛 4 (RefOf (1 ∷ []) tt (plain (λ _. usize)) (λ _. tt)) yes (λ κs x f. refl), (Goes-dropped 𝓛 4 (RefOf (2 ∷ []) tt (plain (λ _. param 0 T)) (λ _. tt)) yes (λ κs x f. refl), tt))) held
+        walk_Meets 𝓛 ended stayed (
+          Goes-dropped 𝓛 4 (RefOf (0 ∷ []) tt (plain (λ _. GhostList.the_row (param 0 T))) (λ _. tt)) yes
+              (λ κs x f. refl),
+          (
+            Goes-dropped 𝓛 4 (RefOf (1 ∷ []) tt (plain (λ _. usize)) (λ _. tt)) yes (λ κs x f. refl),
+            (Goes-dropped 𝓛 4 (RefOf (2 ∷ []) tt (plain (λ _. param 0 T)) (λ _. tt)) yes (λ κs x f. refl), tt),
+          ),
+        ) held
         (WpFn 𝓤 H 𝓣.C 𝓣.Λ function) (WpFn-mono 𝓤 H 𝓛.laws 𝓣 function) (walks 𝓣.C 𝓣.Λ)
 
 pub inserted_spec : {M : Type 1} → stated.statement M

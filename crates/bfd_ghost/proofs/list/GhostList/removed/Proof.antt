@@ -49,7 +49,10 @@ module _ (T : RattleType) where
   ended = F.ended T
 
   abbrev stayed : Stays ended.signature.params ended.kept
-  stayed = (stay_dropped (RefOf (0 ∷ []) tt (plain (λ _. GhostList.the_row (param 0 T))) (λ _. tt)) yes, (stay_dropped (RefOf (1 ∷ []) tt (plain (λ _. usize)) (λ _. tt)) yes, tt))
+  stayed = (
+    stay_dropped (RefOf (0 ∷ []) tt (plain (λ _. GhostList.the_row (param 0 T))) (λ _. tt)) yes,
+    (stay_dropped (RefOf (1 ∷ []) tt (plain (λ _. usize)) (λ _. tt)) yes, tt),
+  )
 
   module _ {M : Type 1} {𝓤 : Ura M} (𝓛 : Logic 𝓤) (at_mem : Memory → SProp 𝓤) (run : Routine → Fun 𝓤) where
     open 𝓛 use {H}
@@ -79,7 +82,8 @@ module _ (T : RattleType) where
           enter ! C Λ function (p ∷ q ∷ []) Post $ alloc_all ! (λ l. pass_all ! refl ((tt, tt), ((tt, tt), tt)) $
           sets ! (agg ! (no_more !)) refl (tt, tt) $
           sets ! (agg ! (and_then ! (get ! refl) (no_more !))) refl (tt, (tt, tt)) $
-          nothing ! $ owned ! (Mark.the_row (param 0 T)) (Is (Mark.the_row (param 0 T))) (makes (Mark.the_type (param 0 T)) tt 𝓛) (record {}) (none ∷ []) (tt, (refl, tt)) $
+          nothing ! $ owned ! (Mark.the_row (param 0 T)) (Is (Mark.the_row (param 0 T))) (makes (Mark.the_type (param 0 T)) tt 𝓛)
+          (record {}) (none ∷ []) (tt, (refl, tt)) $
           one_made ! (Mark.the_row (param 0 T)) (record {}) none $ fjoin ! $
           returns ! (look_at ! 0 refl) $ free_all ! refl $
           suffices ! _ (ends_at 𝓛 ended stayed held z (one none) made (tt, (tt, tt)) (tt, (tt, tt))) $ says ! refl $
@@ -87,7 +91,11 @@ module _ (T : RattleType) where
 
     meets : (𝓣 : Tables 𝓤 H) → Meets 𝓛 ended.signature (WpFn 𝓤 H 𝓣.C 𝓣.Λ function) (closing 𝓛 ended held)
     meets 𝓣 =
-        walk_Meets 𝓛 ended stayed (Goes-dropped 𝓛 3 (RefOf (0 ∷ []) tt (plain (λ _. GhostList.the_row (param 0 T))) (λ _. tt)) yes (λ κs x f. refl), (Goes-dropped 𝓛 3 (RefOf (1 ∷ []) tt (plain (λ _. usize)) (λ _. tt)) yes (λ κs x f. refl), tt)) held
+        walk_Meets 𝓛 ended stayed (
+          Goes-dropped 𝓛 3 (RefOf (0 ∷ []) tt (plain (λ _. GhostList.the_row (param 0 T))) (λ _. tt)) yes
+              (λ κs x f. refl),
+          (Goes-dropped 𝓛 3 (RefOf (1 ∷ []) tt (plain (λ _. usize)) (λ _. tt)) yes (λ κs x f. refl), tt),
+        ) held
         (WpFn 𝓤 H 𝓣.C 𝓣.Λ function) (WpFn-mono 𝓤 H 𝓛.laws 𝓣 function) (walks 𝓣.C 𝓣.Λ)
 
 pub removed_spec : {M : Type 1} → stated.statement M

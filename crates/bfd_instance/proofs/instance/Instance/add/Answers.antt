@@ -25,7 +25,8 @@ returns-in-Ok-clause-world g c =
     let e = c.in_ok-place.ensures in
     rw (← c.self.view_is, ap (λ (m : Members). m.pool) e.table, c.in-Ok.ensures.last)
     (session_joins c.self.inside.sessions.sessions c.in_ok-place.place c.args.config c.self.inside.table.pool c.self.inside.sessions.last
-    c.self.invariant.configs (place_is c.self.inside.table c.args.config e.fault e.table c.in_ok-place.place e.place) c.in-Ok.ensures.sessions)
+    c.self.invariant.configs (place_is c.self.inside.table c.args.config e.fault e.table c.in_ok-place.place e.place)
+    c.in-Ok.ensures.sessions)
 
 pub returns-in-Ok-clause-place : goal.returns-in-Ok-clause-place
 returns-in-Ok-clause-place g c =

@@ -6,7 +6,8 @@ use Rattle.bfd_instance.proofs.instance.Instance.hear.Goals as goal
 
 pub invariant_of-self : goal.invariant_of-self
 invariant_of-self g c =
-    stage_kept c.self.inside.sessions.sessions c.arrive.new.sessions.sessions c.self.inside.table c.self.inside.outs c.arrive.new.outs (Rx c.args.moment c.args.arrival) c.self.inside.sessions.last c.arrive.new.sessions.last c.arrive.result.0
+    stage_kept c.self.inside.sessions.sessions c.arrive.new.sessions.sessions c.self.inside.table c.self.inside.outs c.arrive.new.outs
+    (Rx c.args.moment c.args.arrival) c.self.inside.sessions.last c.arrive.new.sessions.last c.arrive.result.0
     c.self.invariant (rw (← c.self.invariant.configs) c.arrive.ensures.turn) (c.arrive.ensures.room ∙ ap (λ o. o.room) c.clear.ensures)
 
 pub returns-clause-turn : goal.returns-clause-turn

@@ -16,5 +16,6 @@ returns-clause-after g c =
     elim c.match-open.branch [
       | in-Ok w ↦ rw w.result-is (open_told counts_told (place_in places) _ number faults c.in-Some.link w.in-Ok.ensures.ok waiting
           ∙ ap (λ ports. after_open number (Ok c.in-Some.link) (ports_told_of ports)) c.self.view_is)
-      | in-Err w ↦ rw w.result-is (ap (λ after. ports_told counts_told after faults) w.in-Err.ensures.err ∙ ap (λ ports. ports_told_of ports) c.self.view_is)
+      | in-Err w ↦ rw w.result-is (ap (λ after. ports_told counts_told after faults) w.in-Err.ensures.err
+          ∙ ap (λ ports. ports_told_of ports) c.self.view_is)
     ]

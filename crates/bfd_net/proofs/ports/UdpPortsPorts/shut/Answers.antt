@@ -13,5 +13,6 @@ returns-clause-after g c =
     let faults = c.self.inside.faults in
     let opened = ap (λ ports. (ports_told_of ports).opened number) c.self.view_is ∙ c.requires.opened in
     shut_told counts_told (place_in places) _ number faults (number, c.counts.result) c.shut.ensures opened
-    ∙ (ap (λ (kept : ℕ × LinkCounts). after_shut number (counts_told kept) (ports_told counts_told (place_in places) faults)) (λ i. (sym c.requires.number i, c.counts.ensures i))
+    ∙ (ap (λ (kept : ℕ × LinkCounts). after_shut number (counts_told kept) (ports_told counts_told (place_in places) faults))
+    (λ i. (sym c.requires.number i, c.counts.ensures i))
     ∙ ap (λ ports. after_shut number (link_told c.args.link) (ports_told_of ports)) c.self.view_is)

@@ -5,7 +5,8 @@ use Rattle.bfd_replay.proofs.plan.plan.plan_run.Given as goal
 
 abbrev pub invariant-lines : goal.invariant-lines
 invariant-lines l = record {
-  planned : IsOnPlan l.table.configs l.table.pool l.fn.run.lines.items (reverse l.left.items) l.shards l.fn.run.first l.number (map (λ q. q.items) l.queues.items) l.apart;
+  planned : IsOnPlan l.table.configs l.table.pool l.fn.run.lines.items (reverse l.left.items) l.shards l.fn.run.first l.number
+      (map (λ q. q.items) l.queues.items) l.apart;
 }
 
 abbrev pub decreases-lines : goal.decreases-lines

@@ -3,4 +3,8 @@ use Rattle.bfd_replay.proofs.ReportCommon.{[], ◌∷◌, append-nil, flat_map-a
 use Rattle.bfd_replay.proofs.report.at_once.put_behind.Goals as goal
 
 pub returns-clause-texts : goal.returns-clause-texts
-returns-clause-texts c = cc (c.in_ok-push.ensures.items, flat_map-append (λ t. t.items) c.args.texts.now.items (c.args.more.text ∷ []), append-nil c.args.more.text.items)
+returns-clause-texts c = cc (
+  c.in_ok-push.ensures.items,
+  flat_map-append (λ t. t.items) c.args.texts.now.items (c.args.more.text ∷ []),
+  append-nil c.args.more.text.items,
+)

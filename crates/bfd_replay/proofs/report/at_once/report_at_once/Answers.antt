@@ -10,7 +10,8 @@ returns-clause-texts g c = λ shards last hs ss count parts.
     let dealt = deal_all shards 1 last hs ss in
     let told = c.in_ok-texts.ensures dealt (subst (IsSpread dealt) (sym c.in_ok-rests.ensures) (parts_spread parts)) in
     whole_report _ last hs ss _ _ count told.0 told.1 told.2 (c.as_bytes.ensures.value ∙ c.in_ok-done_text.ensures)
-    (text_more (λ t. t.items) c.in_ok-texts.field-0.texts.items c.push.new.self.items _ _ c.in_ok-push.ensures.items refl c.new-last.ensures.items c.in_ok-extend_from_slice.ensures.items)
+    (text_more (λ t. t.items) c.in_ok-texts.field-0.texts.items c.push.new.self.items _ _ c.in_ok-push.ensures.items refl
+    c.new-last.ensures.items c.in_ok-extend_from_slice.ensures.items)
 
 pub returns-clause-counts : goal.returns-clause-counts
 returns-clause-counts g c = λ shards last hs ss count parts.

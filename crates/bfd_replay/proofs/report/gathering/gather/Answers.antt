@@ -5,9 +5,14 @@ use Rattle.bfd_replay.proofs.report.gathering.gather.Goals as goal
 
 pub loop-s-preserved : goal.loop-s-preserved
 loop-s-preserved c = record {
-  goes = λ dealt h. go c.in_ok-sent.sent c.in_ok-sent.dropped c.loop-s.invariant.heads c.in-Some.ensures.some c.index_mut-rest.ensures.value (cc (c.in_ok-sent.ensures.rest))
+  goes = λ dealt h. go c.in_ok-sent.sent c.in_ok-sent.dropped c.loop-s.invariant.heads c.in-Some.ensures.some c.index_mut-rest.ensures.value
+      (cc (c.in_ok-sent.ensures.rest))
       (cc (c.in_ok-sent.ensures.text)) (cc (c.in_ok-sent.ensures.txs)) (cc (c.in_ok-sent.ensures.drops)) (c.loop-s.invariant.goes dealt h);
-  heads = cc (map-set first_key c.loop-s.rests.items c.in-Some.s c.take.new.self, map-set head_key c.loop-s.heads c.in-Some.s c.first.result, c.loop-s.invariant.heads);
+  heads = cc (
+    map-set first_key c.loop-s.rests.items c.in-Some.s c.take.new.self,
+    map-set head_key c.loop-s.heads c.in-Some.s c.first.result,
+    c.loop-s.invariant.heads,
+  );
   few = omega (arith, c.loop-s.invariant.few, c.in_ok-sent.ensures.few);
 }
 

@@ -5,7 +5,8 @@ use Rattle.bfd_replay.proofs.report.gathering.gather.Given as goal
 
 abbrev pub invariant-loop-s : goal.invariant-loop-s
 invariant-loop-s l = record {
-  goes : (dealt : List Dealt) → IsSpread dealt l.initial.rests.items → Going dealt l.rests.items l.initial.text.items l.text.items l.txs l.drops;
+  goes : (dealt : List Dealt) → IsSpread dealt l.initial.rests.items
+      → Going dealt l.rests.items l.initial.text.items l.text.items l.txs l.drops;
   heads : keys l.heads ≡ map first_key l.rests.items;
   few : l.txs + l.drops + length l.initial.text.items ≤ length l.text.items;
 }

@@ -6,15 +6,21 @@ use Rattle.bfd_replay.proofs.report.giving.give.Goals as goal
 use Rattle.bfd_replay.proofs.report.giving.give.Goals.{In-Ok}
 
 taken : (g : Over) (c : In-Ok g) {dealt : List Dealt} → IsSpread dealt c.args.rests.now.items
-    → Giving dealt (set c.loop-s.rests.items c.in-Some.s c.take_counted.new.rest) (g.K.Sink.taken c.args.sink.now) (g.K.Sink.taken c.loop-s.sink) c.args.text.now.items c.take_counted.new.text.items c.in-Ok.sums.0 c.in-Ok.sums.1
+    → Giving dealt (set c.loop-s.rests.items c.in-Some.s c.take_counted.new.rest) (g.K.Sink.taken c.args.sink.now)
+    (g.K.Sink.taken c.loop-s.sink) c.args.text.now.items c.take_counted.new.text.items c.in-Ok.sums.0 c.in-Ok.sums.1
 taken g c {dealt} h =
-    take_more c.loop-s.invariant.heads c.in-Some.ensures.some c.index_mut-rest.ensures.value (cc (c.in-Ok.ensures.rest)) (cc (c.in-Ok.ensures.text)) (cc (c.in-Ok.ensures.txs)) (cc (c.in-Ok.ensures.drops))
+    take_more c.loop-s.invariant.heads c.in-Some.ensures.some c.index_mut-rest.ensures.value (cc (c.in-Ok.ensures.rest))
+    (cc (c.in-Ok.ensures.text)) (cc (c.in-Ok.ensures.txs)) (cc (c.in-Ok.ensures.drops))
     (c.loop-s.invariant.goes dealt h)
 
 pub loop-s-preserved : goal.loop-s-preserved
 loop-s-preserved g c = record {
   goes = λ dealt h. give_more c.in_ok-give_on.ensures.text (taken g (goal.at.loop-s-preserved g c).In-Ok h);
-  heads = cc (map-set first_key c.loop-s.rests.items c.in-Some.s c.take_counted.new.rest, map-set head_key c.loop-s.heads c.in-Some.s c.first.result, c.loop-s.invariant.heads);
+  heads = cc (
+    map-set first_key c.loop-s.rests.items c.in-Some.s c.take_counted.new.rest,
+    map-set head_key c.loop-s.heads c.in-Some.s c.first.result,
+    c.loop-s.invariant.heads,
+  );
   calm = c.in_ok-give_on.ensures.calm ∙ c.loop-s.invariant.calm;
 }
 
@@ -22,7 +28,8 @@ pub returns-in_default-take_counted-clause-front : goal.returns-in_default-take_
 returns-in_default-take_counted-clause-front g c = λ dealt h. given_front (c.loop-s.invariant.goes dealt h)
 
 pub returns-in_err-give_on-clause-front : goal.returns-in_err-give_on-clause-front
-returns-in_err-give_on-clause-front g c = λ dealt h. given_broken _ (taken g (goal.at.returns-in_err-give_on-clause-front g c).In-Ok h) c.give_on.ensures.front
+returns-in_err-give_on-clause-front g c = λ dealt h. given_broken _ (taken g (goal.at.returns-in_err-give_on-clause-front g c).In-Ok h)
+    c.give_on.ensures.front
 
 pub returns-clause-told : goal.returns-clause-told
 returns-clause-told g c = λ dealt h. (all_given _ c.loop-s.invariant.heads c.in_default.ensures.none (c.loop-s.invariant.goes dealt h)).0

@@ -6,7 +6,8 @@ use Rattle.bfd_replay.proofs.report.giving.give.Given as goal
 abbrev pub invariant-loop-s : goal.invariant-loop-s
 invariant-loop-s g l = record {
   goes : (dealt : List Dealt) → IsSpread dealt l.initial.rests.items
-      → Giving dealt l.rests.items (g.K.Sink.taken l.initial.sink) (g.K.Sink.taken l.sink) l.initial.text.items l.text.items l.counts.0 l.counts.1;
+      → Giving dealt l.rests.items (g.K.Sink.taken l.initial.sink) (g.K.Sink.taken l.sink) l.initial.text.items l.text.items l.counts.0
+      l.counts.1;
   heads : keys l.heads ≡ map first_key l.rests.items;
   calm : g.K.Sink.faults l.sink ≡ g.K.Sink.faults l.initial.sink;
 }

@@ -8,22 +8,28 @@ pub returns-in_default-clause-front : goal.returns-in_default-clause-front
 returns-in_default-clause-front g c = λ dealt h. took_nothing (g.K.Sink.taken c.args.sink.now) (c.args.text.now.items ++ dealt_text dealt)
 
 pub returns-in_default-rests_of-clause-front : goal.returns-in_default-rests_of-clause-front
-returns-in_default-rests_of-clause-front g c = λ dealt h. took_nothing (g.K.Sink.taken c.args.sink.now) (c.args.text.now.items ++ dealt_text dealt)
+returns-in_default-rests_of-clause-front g c = λ dealt h. took_nothing (g.K.Sink.taken c.args.sink.now)
+    (c.args.text.now.items ++ dealt_text dealt)
 
 pub returns-in_default-heads_of-clause-front : goal.returns-in_default-heads_of-clause-front
-returns-in_default-heads_of-clause-front g c = λ dealt h. took_nothing (g.K.Sink.taken c.args.sink.now) (c.args.text.now.items ++ dealt_text dealt)
+returns-in_default-heads_of-clause-front g c = λ dealt h. took_nothing (g.K.Sink.taken c.args.sink.now)
+    (c.args.text.now.items ++ dealt_text dealt)
 
 pub returns-in-Some-clause-told : goal.returns-in-Some-clause-told
-returns-in-Some-clause-told g c = λ dealt h. rw (← sole_texts h (is_all c.args.parts.now.items c.in-Some.is c.in-Ok.ensures) c.index_mut.ensures.value) c.give_sole.ensures.told
+returns-in-Some-clause-told g c = λ dealt h. rw (← sole_texts h (is_all c.args.parts.now.items c.in-Some.is c.in-Ok.ensures)
+    c.index_mut.ensures.value) c.give_sole.ensures.told
 
 pub returns-in-Some-clause-front : goal.returns-in-Some-clause-front
-returns-in-Some-clause-front g c = λ dealt h. rw (← sole_texts h (is_all c.args.parts.now.items c.in-Some.is c.in-Ok.ensures) c.index_mut.ensures.value) c.give_sole.ensures.front
+returns-in-Some-clause-front g c = λ dealt h. rw (← sole_texts h (is_all c.args.parts.now.items c.in-Some.is c.in-Ok.ensures)
+    c.index_mut.ensures.value) c.give_sole.ensures.front
 
 pub returns-in-Some-clause-txs : goal.returns-in-Some-clause-txs
-returns-in-Some-clause-txs g c = λ dealt h. rw (← sole_txs h (is_all c.args.parts.now.items c.in-Some.is c.in-Ok.ensures) c.index_mut.ensures.value) c.give_sole.ensures.txs
+returns-in-Some-clause-txs g c = λ dealt h. rw (← sole_txs h (is_all c.args.parts.now.items c.in-Some.is c.in-Ok.ensures)
+    c.index_mut.ensures.value) c.give_sole.ensures.txs
 
 pub returns-in-Some-clause-drops : goal.returns-in-Some-clause-drops
-returns-in-Some-clause-drops g c = λ dealt h. rw (← sole_drops h (is_all c.args.parts.now.items c.in-Some.is c.in-Ok.ensures) c.index_mut.ensures.value) c.give_sole.ensures.drops
+returns-in-Some-clause-drops g c = λ dealt h. rw (← sole_drops h (is_all c.args.parts.now.items c.in-Some.is c.in-Ok.ensures)
+    c.index_mut.ensures.value) c.give_sole.ensures.drops
 
 pub returns-clause-told : goal.returns-clause-told
 returns-clause-told g c = λ dealt h. c.give.ensures.told dealt (subst (IsSpread dealt) (sym c.in-Ok-rests_of.ensures) h)

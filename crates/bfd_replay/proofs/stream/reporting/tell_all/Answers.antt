@@ -13,23 +13,31 @@ pub close-states-requires-clause-joined : goal.close-states-requires-clause-join
 close-states-requires-clause-joined g c = none_open c.requires.new c.tell_lines-end.ensures.kept
 
 pub reason_of-requires : goal.reason_of-requires
-reason_of-requires g c = meant c.in-Err.stop c.requires.new c.tell_lines-end.ensures.kept (omega (arith, c.requires.few)) c.close-states.ensures.closed c.in-Err.ensures.stopped
+reason_of-requires g c = meant c.in-Err.stop c.requires.new c.tell_lines-end.ensures.kept (omega (arith, c.requires.few))
+    c.close-states.ensures.closed c.in-Err.ensures.stopped
 
 pub returns-in-Ok-close-clause-whole : goal.returns-in-Ok-close-clause-whole
 returns-in-Ok-close-clause-whole g c =
     let sole = all_sole c.requires.new c.tell_lines-end.ensures.kept c.close-states.ensures.closed in
-    report_whole (g.K.Sink.taken c.args.sink.now) (g.K.Sink.taken c.tell_lines-end.new.sink) (g.K.Sink.taken c.close.new.sink) c.new-told.result c.tell_lines-end.new.told
-    (outcomes_on c.args.engine (happenings c.args.engine.configs c.args.engine.pool c.args.events.items)) (ap (λ (t : Telling). t.text) c.new-told.ensures) (ap (λ (t : Telling). t.events) c.new-told.ensures) (ap (λ (t : Telling). t.txs) c.new-told.ensures) (ap (λ (t : Telling). t.drops) c.new-told.ensures) (c.in-Ok.ensures.told sole) c.in-Ok-close.ensures.whole
+    report_whole (g.K.Sink.taken c.args.sink.now) (g.K.Sink.taken c.tell_lines-end.new.sink) (g.K.Sink.taken c.close.new.sink)
+    c.new-told.result c.tell_lines-end.new.told
+    (outcomes_on c.args.engine (happenings c.args.engine.configs c.args.engine.pool c.args.events.items)) (ap (λ (t : Telling). t.text)
+    c.new-told.ensures) (ap (λ (t : Telling). t.events) c.new-told.ensures) (ap (λ (t : Telling). t.txs) c.new-told.ensures)
+    (ap (λ (t : Telling). t.drops) c.new-told.ensures) (c.in-Ok.ensures.told sole) c.in-Ok-close.ensures.whole
 
 pub returns-in-Ok-close-clause-states : goal.returns-in-Ok-close-clause-states
 returns-in-Ok-close-clause-states g c =
-    closed_after (happenings c.args.engine.configs c.args.engine.pool c.args.events.items) c.requires.new c.tell_lines-end.ensures.kept c.close-states.ensures.closed c.in-Ok.ensures.brought
+    closed_after (happenings c.args.engine.configs c.args.engine.pool c.args.events.items) c.requires.new c.tell_lines-end.ensures.kept
+    c.close-states.ensures.closed c.in-Ok.ensures.brought
 
 pub returns-in-Ok-close-clause-front : goal.returns-in-Ok-close-clause-front
 returns-in-Ok-close-clause-front g c =
     let sole = all_sole c.requires.new c.tell_lines-end.ensures.kept c.close-states.ensures.closed in
-    report_front (g.K.Sink.taken c.args.sink.now) (g.K.Sink.taken c.tell_lines-end.new.sink) (g.K.Sink.taken c.close.new.sink) c.new-told.result c.tell_lines-end.new.told
-    (outcomes_on c.args.engine (happenings c.args.engine.configs c.args.engine.pool c.args.events.items)) (ap (λ (t : Telling). t.text) c.new-told.ensures) (ap (λ (t : Telling). t.events) c.new-told.ensures) (ap (λ (t : Telling). t.txs) c.new-told.ensures) (ap (λ (t : Telling). t.drops) c.new-told.ensures) (c.in-Ok.ensures.told sole) c.close.ensures.front
+    report_front (g.K.Sink.taken c.args.sink.now) (g.K.Sink.taken c.tell_lines-end.new.sink) (g.K.Sink.taken c.close.new.sink)
+    c.new-told.result c.tell_lines-end.new.told
+    (outcomes_on c.args.engine (happenings c.args.engine.configs c.args.engine.pool c.args.events.items))
+    (ap (λ (t : Telling). t.text) c.new-told.ensures) (ap (λ (t : Telling). t.events) c.new-told.ensures) (ap (λ (t : Telling). t.txs)
+    c.new-told.ensures) (ap (λ (t : Telling). t.drops) c.new-told.ensures) (c.in-Ok.ensures.told sole) c.close.ensures.front
 
 pub returns-in-Ok-close-clause-cause : goal.returns-in-Ok-close-clause-cause
 returns-in-Ok-close-clause-cause g c = calm_cause _ _ _ (c.in-Ok-close.ensures.calm ∙ c.in-Ok.ensures.calm)
@@ -37,8 +45,11 @@ returns-in-Ok-close-clause-cause g c = calm_cause _ _ _ (c.in-Ok-close.ensures.c
 pub returns-in-Err-close-clause-front : goal.returns-in-Err-close-clause-front
 returns-in-Err-close-clause-front g c =
     let sole = all_sole c.requires.new c.tell_lines-end.ensures.kept c.close-states.ensures.closed in
-    report_front (g.K.Sink.taken c.args.sink.now) (g.K.Sink.taken c.tell_lines-end.new.sink) (g.K.Sink.taken c.close.new.sink) c.new-told.result c.tell_lines-end.new.told
-    (outcomes_on c.args.engine (happenings c.args.engine.configs c.args.engine.pool c.args.events.items)) (ap (λ (t : Telling). t.text) c.new-told.ensures) (ap (λ (t : Telling). t.events) c.new-told.ensures) (ap (λ (t : Telling). t.txs) c.new-told.ensures) (ap (λ (t : Telling). t.drops) c.new-told.ensures) (c.in-Ok.ensures.told sole) c.close.ensures.front
+    report_front (g.K.Sink.taken c.args.sink.now) (g.K.Sink.taken c.tell_lines-end.new.sink) (g.K.Sink.taken c.close.new.sink)
+    c.new-told.result c.tell_lines-end.new.told
+    (outcomes_on c.args.engine (happenings c.args.engine.configs c.args.engine.pool c.args.events.items))
+    (ap (λ (t : Telling). t.text) c.new-told.ensures) (ap (λ (t : Telling). t.events) c.new-told.ensures) (ap (λ (t : Telling). t.txs)
+    c.new-told.ensures) (ap (λ (t : Telling). t.drops) c.new-told.ensures) (c.in-Ok.ensures.told sole) c.close.ensures.front
 
 pub returns-in-Err-close-clause-cause : goal.returns-in-Err-close-clause-cause
 returns-in-Err-close-clause-cause g c = cause_as c.in-Err-close.fault _ _ _ c.in-Ok.ensures.calm c.in-Err-close.ensures.cause
@@ -46,15 +57,21 @@ returns-in-Err-close-clause-cause g c = cause_as c.in-Err-close.fault _ _ _ c.in
 pub returns-in-Err-clause-front : goal.returns-in-Err-clause-front
 returns-in-Err-clause-front g c =
     let sole = all_sole c.requires.new c.tell_lines-end.ensures.kept c.close-states.ensures.closed in
-    lines_front (g.K.Sink.taken c.args.sink.now) (g.K.Sink.taken c.tell_lines-end.new.sink) (g.K.Sink.taken c.tell_lines-end.new.sink) c.new-told.result c.tell_lines-end.new.told
-    (outcomes_on c.args.engine (happenings c.args.engine.configs c.args.engine.pool c.args.events.items)) (ap (λ (t : Telling). t.text) c.new-told.ensures) (ap (λ (t : Telling). t.events) c.new-told.ensures) (ap (λ (t : Telling). t.txs) c.new-told.ensures) (ap (λ (t : Telling). t.drops) c.new-told.ensures) (c.tell_lines-end.ensures.front sole)
+    lines_front (g.K.Sink.taken c.args.sink.now) (g.K.Sink.taken c.tell_lines-end.new.sink) (g.K.Sink.taken c.tell_lines-end.new.sink)
+    c.new-told.result c.tell_lines-end.new.told
+    (outcomes_on c.args.engine (happenings c.args.engine.configs c.args.engine.pool c.args.events.items))
+    (ap (λ (t : Telling). t.text) c.new-told.ensures) (ap (λ (t : Telling). t.events) c.new-told.ensures) (ap (λ (t : Telling). t.txs)
+    c.new-told.ensures) (ap (λ (t : Telling). t.drops) c.new-told.ensures) (c.tell_lines-end.ensures.front sole)
 
 pub returns-in-Err-clause-cause : goal.returns-in-Err-clause-cause
 returns-in-Err-clause-cause g c = rw c.reason_of.ensures (stop_cause _ _ c.in-Err.stop c.in-Err.ensures.cause
-    (meant c.in-Err.stop c.requires.new c.tell_lines-end.ensures.kept (omega (arith, c.requires.few)) c.close-states.ensures.closed c.in-Err.ensures.stopped))
+    (meant c.in-Err.stop c.requires.new c.tell_lines-end.ensures.kept (omega (arith, c.requires.few)) c.close-states.ensures.closed
+    c.in-Err.ensures.stopped))
 
 pub returns-in-Ok-close-clause-counts : goal.returns-in-Ok-close-clause-counts
 returns-in-Ok-close-clause-counts g c =
     let sole = all_sole c.requires.new c.tell_lines-end.ensures.kept c.close-states.ensures.closed in
-    c.in-Ok-close.ensures.counts ∙ counts_told c.new-told.result c.tell_lines-end.new.told (outcomes_on c.args.engine (happenings c.args.engine.configs c.args.engine.pool c.args.events.items))
-    (ap (λ (t : Telling). t.events) c.new-told.ensures) (ap (λ (t : Telling). t.txs) c.new-told.ensures) (ap (λ (t : Telling). t.drops) c.new-told.ensures) (c.in-Ok.ensures.told sole)
+    c.in-Ok-close.ensures.counts ∙ counts_told c.new-told.result c.tell_lines-end.new.told
+    (outcomes_on c.args.engine (happenings c.args.engine.configs c.args.engine.pool c.args.events.items))
+    (ap (λ (t : Telling). t.events) c.new-told.ensures) (ap (λ (t : Telling). t.txs) c.new-told.ensures)
+    (ap (λ (t : Telling). t.drops) c.new-told.ensures) (c.in-Ok.ensures.told sole)

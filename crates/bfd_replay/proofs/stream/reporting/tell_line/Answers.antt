@@ -4,7 +4,8 @@ use Rattle.bfd_replay.specs.Turning.{IsOfOne}
 use Rattle.bfd_replay.proofs.stream.reporting.tell_line.Goals as goal
 
 pub tell_one-requires-clause-one : goal.tell_one-requires-clause-one
-tell_one-requires-clause-one g c = subst (λ n. IsOfOne n (happening c.args.engine.now.configs c.args.engine.now.pool c.args.line)) c.shards.ensures.value (c.in-None.ensures.none _ _)
+tell_one-requires-clause-one g c = subst (λ n. IsOfOne n (happening c.args.engine.now.configs c.args.engine.now.pool c.args.line))
+    c.shards.ensures.value (c.in-None.ensures.none _ _)
 
 pub returns-in-Some-clause-told : goal.returns-in-Some-clause-told
 returns-in-Some-clause-told g c = rw c.in-Some.ensures.some c.tell_parts.ensures.told

@@ -12,7 +12,8 @@ lines-init g c = record {
   there = c.requires.new.there;
   kept = kept_same c.args.told.now.events c.args.pass.now;
   room = c.requires.room;
-  telling = telling_none c.args.events.items (g.K.Sink.taken c.args.sink.now) c.args.told.now (cc (reverse-reverse c.args.events.items)) c.requires.new;
+  telling = telling_none c.args.events.items (g.K.Sink.taken c.args.sink.now) c.args.told.now (cc (reverse-reverse c.args.events.items))
+      c.requires.new;
   numbers = search rules;
   calm = refl;
 }
@@ -34,12 +35,14 @@ lines-preserved g c =
 pub returns-in-Err-clause-kept : goal.returns-in-Err-clause-kept
 returns-in-Err-clause-kept g c =
     let split = c.in-Some.ensures.first in
-    kept_less (omega (arith, c.in-Some.ensures.fewer, c.lines.invariant.numbers)) (kept_then c.lines.invariant.kept c.tell_line.ensures.kept)
+    kept_less (omega (arith, c.in-Some.ensures.fewer, c.lines.invariant.numbers))
+    (kept_then c.lines.invariant.kept c.tell_line.ensures.kept)
 
 pub returns-in-Err-clause-front : goal.returns-in-Err-clause-front
 returns-in-Err-clause-front g c =
     let split = c.in-Some.ensures.first in
-    telling_front split c.lines.invariant.telling c.tell_line.new.pass (g.K.Sink.taken c.tell_line.new.sink) c.tell_line.ensures.kept c.tell_line.ensures.front
+    telling_front split c.lines.invariant.telling c.tell_line.new.pass (g.K.Sink.taken c.tell_line.new.sink) c.tell_line.ensures.kept
+    c.tell_line.ensures.front
 
 pub returns-in-Err-clause-stopped : goal.returns-in-Err-clause-stopped
 returns-in-Err-clause-stopped g c =

@@ -11,7 +11,8 @@ invariant-lines g l = record {
   there : AllThere l.pass.1;
   kept : HasKept l.told.events l.initial.pass l.pass;
   room : (shard : ℕ) → 5 * length (configs_at l.engine shard) + 5 ≤ l.outs.room;
-  telling : IsTelling l.engine l.fn.events.items (reverse l.left.items) l.pass (g.K.Sink.taken l.initial.sink) (g.K.Sink.taken l.sink) l.initial.told l.told;
+  telling : IsTelling l.engine l.fn.events.items (reverse l.left.items) l.pass (g.K.Sink.taken l.initial.sink) (g.K.Sink.taken l.sink)
+      l.initial.told l.told;
   numbers : l.told.events + length l.left.items ≤ length l.fn.events.items;
   calm : g.K.Sink.faults l.sink ≡ g.K.Sink.faults l.initial.sink;
 }

@@ -1,5 +1,5 @@
 -- The line's text is told, and nothing was taken where it came to none.
-use Rattle.bfd_replay.proofs.StreamCommon.{◌+◌, ◌++◌, ◌∷◌, refl, subst, lines_from, happening, took_nothing}
+use Rattle.bfd_replay.proofs.StreamCommon.{◌+◌, ◌++◌, ◌∷◌, subst, lines_from, happening, took_nothing}
 use Rattle.bfd_shard.specs.History.{last_tick, runs}
 use Rattle.bfd_session.specs.Alone.{Outcome}
 use Rattle.bfd_replay.specs.Turning.{outcome_in}
@@ -10,25 +10,27 @@ use Rattle.bfd_replay.proofs.stream.reporting.tell_one.Goals as goal
 
 pub returns-in-Err-clause-front : goal.returns-in-Err-clause-front
 returns-in-Err-clause-front g c = λ sole past stands rest. took_nothing (g.K.Sink.taken c.args.sink.now)
-    (c.args.told.now.text ++ lines_from (c.args.told.now.events + 1) (outcome_in (last_tick past) (happening c.args.engine.now.configs c.args.engine.now.pool c.args.line) (runs past c.args.engine.now.configs) ∷ rest))
+    (c.args.told.now.text ++ lines_from (c.args.told.now.events + 1) (outcome_in (last_tick past)
+    (happening c.args.engine.now.configs c.args.engine.now.pool c.args.line) (runs past c.args.engine.now.configs) ∷ rest))
 
-pub returns-in_default-clause-front : goal.returns-in_default-clause-front
-returns-in_default-clause-front g c = λ sole past stands rest. took_nothing (g.K.Sink.taken c.args.sink.now)
-    (c.args.told.now.text ++ lines_from (c.args.told.now.events + 1) (outcome_in (last_tick past) (happening c.args.engine.now.configs c.args.engine.now.pool c.args.line) (runs past c.args.engine.now.configs) ∷ rest))
-
-pub returns-in-Ok-give_on-clause-told : goal.returns-in-Ok-give_on-clause-told
-returns-in-Ok-give_on-clause-told g c = λ sole past stands rest.
+pub returns-in-Ok-tell-clause-told : goal.returns-in-Ok-tell-clause-told
+returns-in-Ok-tell-clause-told g c = λ sole past stands rest.
     let o : Outcome = record { items = c.happen.new.outs.items; answer = c.in-Ok.answer } in
-    subst (λ x. ToldUpTo (g.K.Sink.taken c.args.sink.now) (g.K.Sink.taken c.give_on.new.sink) c.args.told.now c.give_on.new.self (x ∷ rest) rest) (c.in-Ok.ensures.gave c.requires.one sole past stands)
-    (event_told _ _ c.args.told.now c.tell.new.self c.give_on.new.self o c.in-Ok-tell.ensures.text c.in-Ok-tell.ensures.events c.in-Ok-tell.ensures.txs c.in-Ok-tell.ensures.drops
-    c.give_on.ensures.events c.give_on.ensures.txs c.give_on.ensures.drops c.in-Ok-give_on.ensures.text rest)
+    subst (λ x. ToldUpTo (g.K.Sink.taken c.args.sink.now) (g.K.Sink.taken c.tell.new.sink) c.args.told.now c.tell.new.self (x ∷ rest) rest)
+    (c.in-Ok.ensures.gave c.requires.one sole past stands)
+    (event_told _ _ c.args.told.now c.tell.new.self o c.in-Ok-tell.ensures.events c.in-Ok-tell.ensures.txs c.in-Ok-tell.ensures.drops
+    c.in-Ok-tell.ensures.text rest)
 
-pub returns-in-Ok-give_on-clause-front : goal.returns-in-Ok-give_on-clause-front
-returns-in-Ok-give_on-clause-front g c = λ sole past stands rest.
-    subst (λ x. TookFront (g.K.Sink.taken c.args.sink.now) (g.K.Sink.taken c.give_on.new.sink) (c.args.told.now.text ++ lines_from (c.args.told.now.events + 1) (x ∷ rest))) (c.in-Ok.ensures.gave c.requires.one sole past stands)
-    (event_front _ _ c.args.told.now c.tell.new.self {os = rest} refl c.in-Ok-tell.ensures.text c.give_on.ensures.front)
+pub returns-in-Ok-tell-clause-front : goal.returns-in-Ok-tell-clause-front
+returns-in-Ok-tell-clause-front g c = λ sole past stands rest.
+    let o : Outcome = record { items = c.happen.new.outs.items; answer = c.in-Ok.answer } in
+    subst (λ x. TookFront (g.K.Sink.taken c.args.sink.now) (g.K.Sink.taken c.tell.new.sink)
+    (c.args.told.now.text ++ lines_from (c.args.told.now.events + 1) (x ∷ rest))) (c.in-Ok.ensures.gave c.requires.one sole past stands)
+    (event_front _ _ c.args.told.now o rest c.tell.ensures.front)
 
-pub returns-in-Err-give_on-clause-front : goal.returns-in-Err-give_on-clause-front
-returns-in-Err-give_on-clause-front g c = λ sole past stands rest.
-    subst (λ x. TookFront (g.K.Sink.taken c.args.sink.now) (g.K.Sink.taken c.give_on.new.sink) (c.args.told.now.text ++ lines_from (c.args.told.now.events + 1) (x ∷ rest))) (c.in-Ok.ensures.gave c.requires.one sole past stands)
-    (event_front _ _ c.args.told.now c.tell.new.self {os = rest} refl c.in-Ok-tell.ensures.text c.give_on.ensures.front)
+pub returns-in-Err-tell-clause-front : goal.returns-in-Err-tell-clause-front
+returns-in-Err-tell-clause-front g c = λ sole past stands rest.
+    let o : Outcome = record { items = c.happen.new.outs.items; answer = c.in-Ok.answer } in
+    subst (λ x. TookFront (g.K.Sink.taken c.args.sink.now) (g.K.Sink.taken c.tell.new.sink)
+    (c.args.told.now.text ++ lines_from (c.args.told.now.events + 1) (x ∷ rest))) (c.in-Ok.ensures.gave c.requires.one sole past stands)
+    (event_front _ _ c.args.told.now o rest c.tell.ensures.front)

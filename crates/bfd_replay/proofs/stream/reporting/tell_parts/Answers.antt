@@ -9,35 +9,48 @@ use Rattle.bfd_replay.proofs.stream.reporting.tell_parts.Goals as goal
 
 pub returns-in-Err-clause-front : goal.returns-in-Err-clause-front
 returns-in-Err-clause-front g c = λ sole past stands rest. took_nothing (g.K.Sink.taken c.args.sink.now)
-    (c.args.told.now.text ++ lines_from (c.args.told.now.events + 1) (outcome_in (last_tick past) (Among (Tick c.args.tick)) (runs past c.args.engine.now.configs) ∷ rest))
+    (c.args.told.now.text ++ lines_from (c.args.told.now.events + 1)
+    (outcome_in (last_tick past) (Among (Tick c.args.tick)) (runs past c.args.engine.now.configs) ∷ rest))
 
 pub returns-in-Ok-gather-clause-told : goal.returns-in-Ok-gather-clause-told
 returns-in-Ok-gather-clause-told g c = λ sole past stands rest.
-    let dealt = tick_dealt c.args.engine.now c.number-number.result c.args.tick c.args.pass.now c.tick_parts.new.pass c.in-Ok.parts.items past c.requires.some c.requires.ascends c.in-Ok.ensures.long
+    let dealt = tick_dealt c.args.engine.now c.number-number.result c.args.tick c.args.pass.now c.tick_parts.new.pass c.in-Ok.parts.items
+    past c.requires.some c.requires.ascends c.in-Ok.ensures.long
     c.in-Ok.ensures.told c.in-Ok.ensures.last sole stands in
-    let spread = tick_spread c.args.engine.now c.number-number.result c.args.tick c.args.pass.now c.tick_parts.new.pass c.in-Ok.parts.items past c.requires.some c.requires.ascends c.in-Ok.ensures.long
+    let spread = tick_spread c.args.engine.now c.number-number.result c.args.tick c.args.pass.now c.tick_parts.new.pass c.in-Ok.parts.items
+    past c.requires.some c.requires.ascends c.in-Ok.ensures.long
     c.in-Ok.ensures.told c.in-Ok.ensures.last sole stands in
-    tick_was_told c.args.engine.now c.number-number.result c.args.tick c.args.pass.now c.tick_parts.new.pass c.in-Ok.parts.items past c.requires.some c.requires.ascends c.in-Ok.ensures.long
+    tick_was_told c.args.engine.now c.number-number.result c.args.tick c.args.pass.now c.tick_parts.new.pass c.in-Ok.parts.items past
+    c.requires.some c.requires.ascends c.in-Ok.ensures.long
     c.in-Ok.ensures.told c.in-Ok.ensures.last sole stands
-    c.args.told.now c.gather.new.self c.number-number.ensures (c.in-Ok-gather.ensures.text dealt spread) c.in-Ok-gather.ensures.events (c.in-Ok-gather.ensures.txs dealt spread)
+    c.args.told.now c.gather.new.self c.number-number.ensures (c.in-Ok-gather.ensures.text dealt spread) c.in-Ok-gather.ensures.events
+    (c.in-Ok-gather.ensures.txs dealt spread)
     (c.in-Ok-gather.ensures.drops dealt spread) rest
 
 pub returns-in-Ok-gather-clause-front : goal.returns-in-Ok-gather-clause-front
 returns-in-Ok-gather-clause-front g c = λ sole past stands rest.
-    let dealt = tick_dealt c.args.engine.now c.number-number.result c.args.tick c.args.pass.now c.tick_parts.new.pass c.in-Ok.parts.items past c.requires.some c.requires.ascends c.in-Ok.ensures.long
+    let dealt = tick_dealt c.args.engine.now c.number-number.result c.args.tick c.args.pass.now c.tick_parts.new.pass c.in-Ok.parts.items
+    past c.requires.some c.requires.ascends c.in-Ok.ensures.long
     c.in-Ok.ensures.told c.in-Ok.ensures.last sole stands in
-    let spread = tick_spread c.args.engine.now c.number-number.result c.args.tick c.args.pass.now c.tick_parts.new.pass c.in-Ok.parts.items past c.requires.some c.requires.ascends c.in-Ok.ensures.long
+    let spread = tick_spread c.args.engine.now c.number-number.result c.args.tick c.args.pass.now c.tick_parts.new.pass c.in-Ok.parts.items
+    past c.requires.some c.requires.ascends c.in-Ok.ensures.long
     c.in-Ok.ensures.told c.in-Ok.ensures.last sole stands in
-    tick_front c.args.engine.now c.number-number.result c.args.tick c.args.pass.now c.tick_parts.new.pass c.in-Ok.parts.items past c.requires.some c.requires.ascends c.in-Ok.ensures.long
+    tick_front c.args.engine.now c.number-number.result c.args.tick c.args.pass.now c.tick_parts.new.pass c.in-Ok.parts.items past
+    c.requires.some c.requires.ascends c.in-Ok.ensures.long
     c.in-Ok.ensures.told c.in-Ok.ensures.last sole stands
-    (g.K.Sink.taken c.args.sink.now) (g.K.Sink.taken c.gather.new.sink) c.args.told.now c.number-number.ensures (c.gather.ensures.front dealt spread) rest
+    (g.K.Sink.taken c.args.sink.now) (g.K.Sink.taken c.gather.new.sink) c.args.told.now c.number-number.ensures
+    (c.gather.ensures.front dealt spread) rest
 
 pub returns-in-Err-gather-clause-front : goal.returns-in-Err-gather-clause-front
 returns-in-Err-gather-clause-front g c = λ sole past stands rest.
-    let dealt = tick_dealt c.args.engine.now c.number-number.result c.args.tick c.args.pass.now c.tick_parts.new.pass c.in-Ok.parts.items past c.requires.some c.requires.ascends c.in-Ok.ensures.long
+    let dealt = tick_dealt c.args.engine.now c.number-number.result c.args.tick c.args.pass.now c.tick_parts.new.pass c.in-Ok.parts.items
+    past c.requires.some c.requires.ascends c.in-Ok.ensures.long
     c.in-Ok.ensures.told c.in-Ok.ensures.last sole stands in
-    let spread = tick_spread c.args.engine.now c.number-number.result c.args.tick c.args.pass.now c.tick_parts.new.pass c.in-Ok.parts.items past c.requires.some c.requires.ascends c.in-Ok.ensures.long
+    let spread = tick_spread c.args.engine.now c.number-number.result c.args.tick c.args.pass.now c.tick_parts.new.pass c.in-Ok.parts.items
+    past c.requires.some c.requires.ascends c.in-Ok.ensures.long
     c.in-Ok.ensures.told c.in-Ok.ensures.last sole stands in
-    tick_front c.args.engine.now c.number-number.result c.args.tick c.args.pass.now c.tick_parts.new.pass c.in-Ok.parts.items past c.requires.some c.requires.ascends c.in-Ok.ensures.long
+    tick_front c.args.engine.now c.number-number.result c.args.tick c.args.pass.now c.tick_parts.new.pass c.in-Ok.parts.items past
+    c.requires.some c.requires.ascends c.in-Ok.ensures.long
     c.in-Ok.ensures.told c.in-Ok.ensures.last sole stands
-    (g.K.Sink.taken c.args.sink.now) (g.K.Sink.taken c.gather.new.sink) c.args.told.now c.number-number.ensures (c.gather.ensures.front dealt spread) rest
+    (g.K.Sink.taken c.args.sink.now) (g.K.Sink.taken c.gather.new.sink) c.args.told.now c.number-number.ensures
+    (c.gather.ensures.front dealt spread) rest

@@ -19,23 +19,31 @@ loop-shard-preserved g c = record {
   of = c.turn.ensures.of;
   there = c.turn.ensures.there;
   room = cc (c.turn.ensures.room, c.loop-shard.invariant.room);
-  ticked = ticked_on c.args.engine.now c.args.tick c.loop-shard.shard c.args.pass.now c.loop-shard.pass c.turn.new.pass c.turn.new.outs.items c.in-Ok.field-0 c.requires.number c.loop-shard.invariant.ticked c.turn.result
+  ticked = ticked_on c.args.engine.now c.args.tick c.loop-shard.shard c.args.pass.now c.loop-shard.pass c.turn.new.pass
+      c.turn.new.outs.items c.in-Ok.field-0 c.requires.number c.loop-shard.invariant.ticked c.turn.result
       c.turn.ensures.call c.in-Ok.is;
   long = omega (arith, c.in-Ok-push.ensures.len, c.loop-shard.invariant.long);
-  told = subst (HaveToldTick c.args.engine.now c.args.number c.args.tick (c.loop-shard.shard + 1) c.args.pass.now c.turn.new.pass) (search rules)
-      (tick_told c.args.engine.now c.args.tick c.loop-shard.shard c.args.pass.now c.loop-shard.pass c.turn.new.pass c.turn.new.outs.items c.in-Ok.field-0 c.requires.number c.loop-shard.invariant.ticked
-      c.args.number c.loop-shard.parts.items c.turn.result c.loop-shard.invariant.long c.loop-shard.invariant.told c.turn.ensures.call c.in-Ok.is);
+  told = subst (HaveToldTick c.args.engine.now c.args.number c.args.tick (c.loop-shard.shard + 1) c.args.pass.now c.turn.new.pass)
+      (search rules)
+      (tick_told c.args.engine.now c.args.tick c.loop-shard.shard c.args.pass.now c.loop-shard.pass c.turn.new.pass c.turn.new.outs.items
+      c.in-Ok.field-0 c.requires.number c.loop-shard.invariant.ticked
+      c.args.number c.loop-shard.parts.items c.turn.result c.loop-shard.invariant.long c.loop-shard.invariant.told c.turn.ensures.call
+      c.in-Ok.is);
 }
 
 pub returns-in-Err-clause-refused : goal.returns-in-Err-clause-refused
-returns-in-Err-clause-refused g c = tick_refused c.args.engine.now c.args.tick c.loop-shard.shard c.args.pass.now c.loop-shard.pass c.turn.new.pass _ c.in-Err.fault c.turn.result c.requires.number (search rules)
+returns-in-Err-clause-refused g c = tick_refused c.args.engine.now c.args.tick c.loop-shard.shard c.args.pass.now c.loop-shard.pass
+    c.turn.new.pass _ c.in-Err.fault c.turn.result c.requires.number (search rules)
     c.loop-shard.invariant.ticked c.turn.ensures.call c.in-Err.is
 
 pub returns-in-Err-clause-kept : goal.returns-in-Err-clause-kept
-returns-in-Err-clause-kept g c = tick_kept c.args.engine.now c.args.tick c.loop-shard.shard c.args.pass.now c.loop-shard.pass c.turn.new.pass _ c.turn.result c.loop-shard.invariant.ticked c.turn.ensures.call
+returns-in-Err-clause-kept g c = tick_kept c.args.engine.now c.args.tick c.loop-shard.shard c.args.pass.now c.loop-shard.pass
+    c.turn.new.pass _ c.turn.result c.loop-shard.invariant.ticked c.turn.ensures.call
 
 pub returns-in_default-clause-kept : goal.returns-in_default-clause-kept
-returns-in_default-clause-kept g c = tick_kept c.args.engine.now c.args.tick c.loop-shard.shard c.args.pass.now c.loop-shard.pass c.turn.new.pass _ c.turn.result c.loop-shard.invariant.ticked c.turn.ensures.call
+returns-in_default-clause-kept g c = tick_kept c.args.engine.now c.args.tick c.loop-shard.shard c.args.pass.now c.loop-shard.pass
+    c.turn.new.pass _ c.turn.result c.loop-shard.invariant.ticked c.turn.ensures.call
 
 pub returns-in_default-push-clause-kept : goal.returns-in_default-push-clause-kept
-returns-in_default-push-clause-kept g c = tick_kept c.args.engine.now c.args.tick c.loop-shard.shard c.args.pass.now c.loop-shard.pass c.turn.new.pass _ c.turn.result c.loop-shard.invariant.ticked c.turn.ensures.call
+returns-in_default-push-clause-kept g c = tick_kept c.args.engine.now c.args.tick c.loop-shard.shard c.args.pass.now c.loop-shard.pass
+    c.turn.new.pass _ c.turn.result c.loop-shard.invariant.ticked c.turn.ensures.call

@@ -12,4 +12,5 @@ pub returns-in-Happens-clause-gave : goal.returns-in-Happens-clause-gave
 returns-in-Happens-clause-gave g c =
     let h : Happening = happening c.args.engine.now.configs c.args.engine.now.pool c.args.line in
     let is : Among c.in-Happens.event ≡ h = search rules in
-    subst (λ x. IfOk c.among.result (λ answer. Gave c.args.engine.now c.args.pass.now c.among.new.pass x (record { items = c.among.new.outs.items; answer = answer }))) is c.among.ensures.gave
+    subst (λ x. IfOk c.among.result (λ answer. Gave c.args.engine.now c.args.pass.now c.among.new.pass x
+    (record { items = c.among.new.outs.items; answer = answer }))) is c.among.ensures.gave

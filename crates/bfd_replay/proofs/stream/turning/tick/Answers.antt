@@ -17,18 +17,23 @@ loop-shard-preserved g c = record {
   of = c.turn.ensures.of;
   there = c.turn.ensures.there;
   room = cc (c.turn.ensures.room, c.loop-shard.invariant.room);
-  ticked = ticked_on c.args.engine.now c.args.tick c.loop-shard.shard c.args.pass.now c.loop-shard.pass c.turn.new.pass c.turn.new.outs.items c.in-Ok.answer c.requires.number c.loop-shard.invariant.ticked c.turn.result
+  ticked = ticked_on c.args.engine.now c.args.tick c.loop-shard.shard c.args.pass.now c.loop-shard.pass c.turn.new.pass
+      c.turn.new.outs.items c.in-Ok.answer c.requires.number c.loop-shard.invariant.ticked c.turn.result
       c.turn.ensures.call c.in-Ok.is;
-  gave = tick_first c.args.engine.now c.args.tick c.loop-shard.shard c.args.pass.now c.loop-shard.pass c.turn.new.pass c.turn.new.outs.items c.in-Ok.answer c.requires.number c.loop-shard.invariant.ticked c.turn.result
+  gave = tick_first c.args.engine.now c.args.tick c.loop-shard.shard c.args.pass.now c.loop-shard.pass c.turn.new.pass c.turn.new.outs.items
+      c.in-Ok.answer c.requires.number c.loop-shard.invariant.ticked c.turn.result
       c.turn.ensures.call c.in-Ok.is;
 }
 
 pub returns-clause-gave : goal.returns-clause-gave
-returns-clause-gave g c = one_gave c.args.engine.now c.args.tick c.loop-shard.shard c.args.pass.now c.loop-shard.pass _ (search rules) c.loop-shard.invariant.gave
+returns-clause-gave g c = one_gave c.args.engine.now c.args.tick c.loop-shard.shard c.args.pass.now c.loop-shard.pass _ (search rules)
+    c.loop-shard.invariant.gave
 
 pub returns-in-Err-clause-refused : goal.returns-in-Err-clause-refused
-returns-in-Err-clause-refused g c = tick_refused c.args.engine.now c.args.tick c.loop-shard.shard c.args.pass.now c.loop-shard.pass c.turn.new.pass _ c.in-Err.fault c.turn.result c.requires.number (search rules)
+returns-in-Err-clause-refused g c = tick_refused c.args.engine.now c.args.tick c.loop-shard.shard c.args.pass.now c.loop-shard.pass
+    c.turn.new.pass _ c.in-Err.fault c.turn.result c.requires.number (search rules)
     c.loop-shard.invariant.ticked c.turn.ensures.call c.in-Err.is
 
 pub returns-in-Err-clause-kept : goal.returns-in-Err-clause-kept
-returns-in-Err-clause-kept g c = tick_kept c.args.engine.now c.args.tick c.loop-shard.shard c.args.pass.now c.loop-shard.pass c.turn.new.pass _ c.turn.result c.loop-shard.invariant.ticked c.turn.ensures.call
+returns-in-Err-clause-kept g c = tick_kept c.args.engine.now c.args.tick c.loop-shard.shard c.args.pass.now c.loop-shard.pass
+    c.turn.new.pass _ c.turn.result c.loop-shard.invariant.ticked c.turn.ensures.call

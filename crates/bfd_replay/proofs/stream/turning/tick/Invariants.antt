@@ -16,5 +16,6 @@ invariant-loop-shard g l = record {
   room : l.outs.room ≡ l.initial.outs.room;
   ticked : HasTicked l.engine l.tick l.shard l.initial.pass l.pass;
   gave : l.shard ≡ 1 → IsSole 0 (seen_at l.pass 0)
-      → (let o : Outcome = record { items = l.outs.items; answer = l.answer } in o) ≡ given_after (configs_at l.engine 0) (seen_at l.initial.pass 0) (Tick l.tick);
+      → (let o : Outcome = record { items = l.outs.items; answer = l.answer } in o)
+      ≡ given_after (configs_at l.engine 0) (seen_at l.initial.pass 0) (Tick l.tick);
 }

@@ -21,11 +21,13 @@ loop-told-preserved c = record {
   can = tt;
   ends = tt;
   all = cc (append_assoc c.loop-told.yielded (c.in-Some.told ∷ []) c.next.new.self.rest.items, c.in-Some.ensures.steps.0);
-  so_far = ok_more (seen_as (λ parts. parts.items)) (λ parts. parts.items) c.loop-told.yielded c.loop-told.all.items c.loop-told.invariant.so_far
+  so_far = ok_more (seen_as (λ parts. parts.items)) (λ parts. parts.items) c.loop-told.yielded c.loop-told.all.items
+      c.loop-told.invariant.so_far
       c.in_ok-parts.ensures c.in_ok-push.ensures.items;
 }
 
 pub returns : goal.returns
 returns c =
-    let whole : c.loop-told.yielded ≡ c.args.tolds.items = cc (append-nil c.loop-told.yielded, nil_from_length c.loop-told.told-iterator.rest.items (cc (c.in-None.ensures.steps.0))) in
+    let whole : c.loop-told.yielded ≡ c.args.tolds.items =
+    cc (append-nil c.loop-told.yielded, nil_from_length c.loop-told.told-iterator.rest.items (cc (c.in-None.ensures.steps.0))) in
     cc

@@ -19,7 +19,8 @@ use Rattle.bfd_replay.proofs.worker.jobs.Job.TheSendSync as job
 use Rattle.bfd_replay.proofs.worker.jobs.+workers.Goals as goal
 
 -- a closure that lends six captures, and is only called
-captures_send : (δ : Ty) (name : List ℕ) (T₀ T₁ T₂ T₃ T₄ T₅ : RattleType) → IsSend T₀ → IsSend T₁ → IsSend T₂ → IsSend T₃ → IsSend T₄ → IsSend T₅
+captures_send : (δ : Ty) (name : List ℕ) (T₀ T₁ T₂ T₃ T₄ T₅ : RattleType) → IsSend T₀ → IsSend T₁ → IsSend T₂ → IsSend T₃ → IsSend T₄
+    → IsSend T₅
     → IsSend (param 1 (arg δ no (TupleAt name (T₀ ∷ T₁ ∷ T₂ ∷ T₃ ∷ T₄ ∷ T₅ ∷ []))))
 captures_send δ name T₀ T₁ T₂ T₃ T₄ T₅ s₀ s₁ s₂ s₃ s₄ s₅ =
     let Ts : List RattleType = T₀ ∷ T₁ ∷ T₂ ∷ T₃ ∷ T₄ ∷ T₅ ∷ [] in
@@ -49,12 +50,15 @@ work_beside-join_mut-requires-send-F g t c κs within =
 
 pub work_each-work-requires-clause-ready : goal.work_each-work-requires-clause-ready
 work_each-work-requires-clause-ready g t c =
-    (subst (All (λ (j : Work). IsWorkerReady c.args.engine.now j.queues j.pass)) c.in-Some.ensures.cases.0 c.requires.ready) 0 c.in-Some.job.now (omega arith)
+    (subst (All (λ (j : Work). IsWorkerReady c.args.engine.now j.queues j.pass)) c.in-Some.ensures.cases.0 c.requires.ready) 0
+    c.in-Some.job.now (omega arith)
 
 pub work_each-work_beside-requires-clause-own : goal.work_each-work_beside-requires-clause-own
 work_each-work_beside-requires-clause-own g t c κs within =
-    (subst (All (λ (j : Work). IsWorkerReady c.args.engine.now j.queues j.pass)) c.in-Some.ensures.cases.0 c.requires.ready) 0 c.in-Some.job.now (omega arith)
+    (subst (All (λ (j : Work). IsWorkerReady c.args.engine.now j.queues j.pass)) c.in-Some.ensures.cases.0 c.requires.ready) 0
+    c.in-Some.job.now (omega arith)
 
 pub work_each-work_beside-requires-clause-ready : goal.work_each-work_beside-requires-clause-ready
 work_each-work_beside-requires-clause-ready g t c κs within = λ k d h.
-    (subst (All (λ (j : Work). IsWorkerReady c.args.engine.now j.queues j.pass)) c.in-Some.ensures.cases.0 c.requires.ready) (suc k) d (omega (arith, h))
+    (subst (All (λ (j : Work). IsWorkerReady c.args.engine.now j.queues j.pass)) c.in-Some.ensures.cases.0 c.requires.ready) (suc k) d
+    (omega (arith, h))

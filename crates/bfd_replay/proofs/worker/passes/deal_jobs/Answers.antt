@@ -15,8 +15,10 @@ loop-at-preserved g c = let i = c.loop-at.invariant in let new = c.in_ok-pass.en
     let own = own_of_left c.args.workers c.loop-at.at c.args.queues.items c.loop-at.queues.items c.in_ok-own.own.items
     (cc) (λ s e. i.left s (omega (arith, e))) c.in_ok-own.ensures.own in
     record {
-      jobs = jobs_more c.args.engine.now c.args.queues.items c.args.workers c.loop-at.at c.loop-at.first c.split.new.first c.loop-at.jobs.items c.push.new.self.items
-          _ i.jobs c.in_ok-push.ensures.items c.split.ensures.of c.split.ensures.there c.split.ensures.number c.split.ensures.used new.0 new.1 new.2 c.in_ok-pass.ensures.parted own;
+      jobs = jobs_more c.args.engine.now c.args.queues.items c.args.workers c.loop-at.at c.loop-at.first c.split.new.first
+          c.loop-at.jobs.items c.push.new.self.items
+          _ i.jobs c.in_ok-push.ensures.items c.split.ensures.of c.split.ensures.there c.split.ensures.number c.split.ensures.used new.0
+          new.1 new.2 c.in_ok-pass.ensures.parted own;
       long = c.in_ok-own.ensures.long ∙ i.long;
       left = λ s h. c.in_ok-own.ensures.others s (λ e. absurd (omega (arith, h, e))) ∙ i.left s (omega (arith, h));
     }

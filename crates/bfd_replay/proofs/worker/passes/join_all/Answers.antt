@@ -49,10 +49,12 @@ loop-job-preserved g c = let i = c.loop-job.invariant in
 
 pub returns-clause-joined : goal.returns-clause-joined
 returns-clause-joined g c =
-    let whole : c.loop-job.yielded ≡ c.args.jobs.items = cc (append-nil c.loop-job.yielded, nil_from_length c.loop-job.job-iterator.rest.items (cc (c.in-None.ensures.steps.0))) in
+    let whole : c.loop-job.yielded ≡ c.args.jobs.items =
+    cc (append-nil c.loop-job.yielded, nil_from_length c.loop-job.job-iterator.rest.items (cc (c.in-None.ensures.steps.0))) in
     rw (← whole) c.loop-job.invariant.joined
 
 pub returns-clause-told : goal.returns-clause-told
 returns-clause-told g c = let i = c.loop-job.invariant in
-    let whole : c.loop-job.yielded ≡ c.args.jobs.items = cc (append-nil c.loop-job.yielded, nil_from_length c.loop-job.job-iterator.rest.items (cc (c.in-None.ensures.steps.0))) in
+    let whole : c.loop-job.yielded ≡ c.args.jobs.items =
+    cc (append-nil c.loop-job.yielded, nil_from_length c.loop-job.job-iterator.rest.items (cc (c.in-None.ensures.steps.0))) in
     cc

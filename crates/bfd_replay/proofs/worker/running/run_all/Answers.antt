@@ -5,7 +5,8 @@ use Rattle.bfd_replay.proofs.worker.running.run_all.Goals as goal
 
 pub work_all-requires-clause-ready : goal.work_all-requires-clause-ready
 work_all-requires-clause-ready g c κs within = λ i d inside.
-    all_ready c.args.engine c.args.queues.items c.args.workers c.args.workers _ c.in_ok-jobs.jobs.items c.requires.locks.0 c.requires.locks.1
+    all_ready c.args.engine c.args.queues.items c.args.workers c.args.workers _ c.in_ok-jobs.jobs.items c.requires.locks.0
+    c.requires.locks.1
     c.requires.long c.requires.met c.in_ok-jobs.ensures i d inside
 
 pub join_all-requires-clause-others : goal.join_all-requires-clause-others
@@ -15,19 +16,25 @@ join_all-requires-clause-others g c =
 
 pub close-states-requires-clause-joined : goal.close-states-requires-clause-joined
 close-states-requires-clause-joined g c =
-    each_joined (at_end c.requires.workers.0 c.requires.workers.1 c.requires.long c.in_ok-jobs.ensures c.work_all.ensures.long c.work_all.ensures.worked c.in_ok-tolds.ensures.joined)
+    each_joined (at_end c.requires.workers.0 c.requires.workers.1 c.requires.long c.in_ok-jobs.ensures c.work_all.ensures.long
+    c.work_all.ensures.worked c.in_ok-tolds.ensures.joined)
 
 pub all_told-requires : goal.all_told-requires
 all_told-requires g c =
     fine_ends (all_closed c.requires.workers.0 c.requires.workers.1 c.requires.long c.in_ok-jobs.ensures
-    c.work_all.ensures.long c.work_all.ensures.worked c.in_ok-tolds.ensures.joined c.close-states.ensures.closed c.requires.short c.requires.small) c.in_ok-tolds.ensures.told
+    c.work_all.ensures.long c.work_all.ensures.worked c.in_ok-tolds.ensures.joined c.close-states.ensures.closed c.requires.short
+    c.requires.small) c.in_ok-tolds.ensures.told
 
 pub returns-clause-states : goal.returns-clause-states
 returns-clause-states g c =
-    states (map (λ parts. parts.items) c.in_ok-all.all.items) (all_closed c.requires.workers.0 c.requires.workers.1 c.requires.long c.in_ok-jobs.ensures
-    c.work_all.ensures.long c.work_all.ensures.worked c.in_ok-tolds.ensures.joined c.close-states.ensures.closed c.requires.short c.requires.small) (sym c.in_ok-tolds.ensures.told ∙ c.in_ok-all.ensures)
+    states (map (λ parts. parts.items) c.in_ok-all.all.items)
+    (all_closed c.requires.workers.0 c.requires.workers.1 c.requires.long c.in_ok-jobs.ensures
+    c.work_all.ensures.long c.work_all.ensures.worked c.in_ok-tolds.ensures.joined c.close-states.ensures.closed c.requires.short
+    c.requires.small) (sym c.in_ok-tolds.ensures.told ∙ c.in_ok-all.ensures)
 
 pub returns-clause-told : goal.returns-clause-told
 returns-clause-told g c =
-    told_all (map (λ parts. parts.items) c.in_ok-all.all.items) (all_closed c.requires.workers.0 c.requires.workers.1 c.requires.long c.in_ok-jobs.ensures
-    c.work_all.ensures.long c.work_all.ensures.worked c.in_ok-tolds.ensures.joined c.close-states.ensures.closed c.requires.short c.requires.small) (sym c.in_ok-tolds.ensures.told ∙ c.in_ok-all.ensures)
+    told_all (map (λ parts. parts.items) c.in_ok-all.all.items)
+    (all_closed c.requires.workers.0 c.requires.workers.1 c.requires.long c.in_ok-jobs.ensures
+    c.work_all.ensures.long c.work_all.ensures.worked c.in_ok-tolds.ensures.joined c.close-states.ensures.closed c.requires.short
+    c.requires.small) (sym c.in_ok-tolds.ensures.told ∙ c.in_ok-all.ensures)

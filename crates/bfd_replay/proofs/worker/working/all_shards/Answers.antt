@@ -27,7 +27,8 @@ returns-in-Err-clause-left g c =
 pub returns-in-Err-clause-stopped : goal.returns-in-Err-clause-stopped
 returns-in-Err-clause-stopped g c =
     let here = next_queue c.loop-queue.yielded c.next.new.self.rest.items _ c.in-Some.queue c.len-shard.result
-    (split_on c.loop-queue.yielded c.in-Some.ensures.steps.0 c.loop-queue.invariant.all) (omega (arith, c.len-shard.ensures, c.loop-queue.invariant.long)) in
+    (split_on c.loop-queue.yielded c.in-Some.ensures.steps.0 c.loop-queue.invariant.all)
+    (omega (arith, c.len-shard.ensures, c.loop-queue.invariant.long)) in
     let inside : c.len-shard.result < length c.args.engine.now.locks =
     omega (arith, here.0, c.requires.ready.long) in
     stopped_here c.in-Err.fault c.args.engine.now c.args.queues.items c.one_shard.new.pass inside here.1 c.in-Err.ensures.stopped
@@ -49,11 +50,19 @@ loop-queue-preserved g c =
     record {
       can = tt;
       ends = tt;
-      all = append_assoc c.loop-queue.yielded (c.in-Some.queue ∷ []) c.next.new.self.rest.items ∙ split_on c.loop-queue.yielded c.in-Some.ensures.steps.0 i.all;
+      all = append_assoc c.loop-queue.yielded (c.in-Some.queue ∷ []) c.next.new.self.rest.items
+          ∙ split_on c.loop-queue.yielded c.in-Some.ensures.steps.0 i.all;
       long =
-          omega (arith, ap length more, length-append c.loop-queue.parts.items (c.one_shard.new.part ∷ []), length-append c.loop-queue.yielded (c.in-Some.queue ∷ []), i.long);
+          omega (
+            arith,
+            ap length more,
+            length-append c.loop-queue.parts.items (c.one_shard.new.part ∷ []),
+            length-append c.loop-queue.yielded (c.in-Some.queue ∷ []),
+            i.long,
+          );
       room = cc;
-      over = over_more _ _ _ _ _ _ _ _ _ _ (search rules) here.1 more i.over c.one_shard.ensures.of c.one_shard.ensures.there c.one_shard.ensures.elsewhere
+      over = over_more _ _ _ _ _ _ _ _ _ _ (search rules) here.1 more i.over c.one_shard.ensures.of c.one_shard.ensures.there
+          c.one_shard.ensures.elsewhere
           c.one_shard.ensures.used c.in-Ok.ensures.done;
     }
 
@@ -64,4 +73,12 @@ pub returns-clause-done : goal.returns-clause-done
 returns-clause-done g c =
     let i = c.loop-queue.invariant in
     let left : c.loop-queue.queue-iterator.rest.len ≡ length c.loop-queue.queue-iterator.rest.items = search rules in
-    over_finished i.over (omega (arith, i.long, ap length i.all, length-append c.loop-queue.yielded c.loop-queue.queue-iterator.rest.items, c.requires.ready.long, c.in-None.ensures.steps.0, left))
+    over_finished i.over (omega (
+      arith,
+      i.long,
+      ap length i.all,
+      length-append c.loop-queue.yielded c.loop-queue.queue-iterator.rest.items,
+      c.requires.ready.long,
+      c.in-None.ensures.steps.0,
+      left,
+    ))

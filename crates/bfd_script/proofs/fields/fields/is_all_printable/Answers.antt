@@ -14,4 +14,5 @@ loop-run-preserved c = (
 -- the last run may stand in a line
 pub returns-then-is_end_printable : goal.returns-then-is_end_printable
 returns-then-is_end_printable c =
-    cc (end_passed c.args.line.now c.loop-run.invariant.2 (omega arith) c.loop-run.invariant.1 (c.is_end_printable.ensures c.if-is_end_printable.true))
+    cc (end_passed c.args.line.now c.loop-run.invariant.2 (omega arith) c.loop-run.invariant.1
+    (c.is_end_printable.ensures c.if-is_end_printable.true))

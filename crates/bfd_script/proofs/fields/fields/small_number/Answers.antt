@@ -13,4 +13,8 @@ pub overflow_add-n : goal.overflow_add-n
 overflow_add-n c = let room = room_now c.loop-rest.n (length c.loop-rest.rest.now) c.loop-rest.invariant.2 in grind (arith, nat_tests, room)
 
 pub loop-rest-preserved : goal.loop-rest-preserved
-loop-rest-preserved c = (grind (arith, common_steps), grind (arith, common_steps), room_more c.loop-rest.n _ _ (length c.loop-rest.rest.now) (grind (arith, nat_tests)) (omega arith) c.loop-rest.invariant.2)
+loop-rest-preserved c = (
+  grind (arith, common_steps),
+  grind (arith, common_steps),
+  room_more c.loop-rest.n _ _ (length c.loop-rest.rest.now) (grind (arith, nat_tests)) (omega arith) c.loop-rest.invariant.2,
+)

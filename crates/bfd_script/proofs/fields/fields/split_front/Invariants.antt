@@ -5,7 +5,8 @@ use Rattle.bfd_script.proofs.fields.fields.split_front.Given as goal
 -- field before each byte that has one
 abbrev pub invariant-loop-marks : goal.invariant-loop-marks
 invariant-loop-marks l =
-    (map (λ field. field.now) l.fields.items ++ slice_split (λ byte. byte == 32) l.rest ≡ map (λ field. field.now) l.initial.fields.items ++ slice_split (λ byte. byte == 32) l.line)
+    (map (λ field. field.now) l.fields.items ++ slice_split (λ byte. byte == 32) l.rest ≡ map (λ field. field.now) l.initial.fields.items
+    ++ slice_split (λ byte. byte == 32) l.line)
     × (l.marked ≤ length l.rest) × (l.marked ≤ 64) × (l.fields.len + l.marked ≤ l.fields.cap)
     × (l.marks ≡ mask_l (map (λ byte. byte == 32) (take l.marked l.rest)))
 

@@ -9,4 +9,5 @@ pub returns-in-49-to-57-clause-value : goal.returns-in-49-to-57-clause-value
 returns-in-49-to-57-clause-value c = end_2 c.args.field.now (omega arith) (omega arith) (omega arith) (omega arith) (omega arith)
 
 pub returns-then-n-lt256-clause-value : goal.returns-then-n-lt256-clause-value
-returns-then-n-lt256-clause-value c = end_3 c.args.field.now (omega arith) (omega arith) (omega arith) (omega arith) (omega arith) (omega arith) (omega arith) c.three_digits-n.ensures (omega arith)
+returns-then-n-lt256-clause-value c = end_3 c.args.field.now (omega arith) (omega arith) (omega arith) (omega arith) (omega arith)
+    (omega arith) (omega arith) c.three_digits-n.ensures (omega arith)

@@ -4,7 +4,9 @@ use Rattle.std.specs.Prelude.{codes}
 use Rattle.bfd_script.proofs.line.arrivals.port_named.Goals as goal
 
 pub returns-in-single : goal.returns-in-single
-returns-in-single c = rw (text_from_reads c.args.field.now (codes "single") (omega arith) (omega arith, (omega arith, (omega arith, (omega arith, (omega arith, (omega arith, tt))))))) refl
+returns-in-single c = rw (text_from_reads c.args.field.now (codes "single") (omega arith)
+    (omega arith, (omega arith, (omega arith, (omega arith, (omega arith, (omega arith, tt))))))) refl
 
 pub returns-in-answer : goal.returns-in-answer
-returns-in-answer c = rw (text_from_reads c.args.field.now (codes "answer") (omega arith) (omega arith, (omega arith, (omega arith, (omega arith, (omega arith, (omega arith, tt))))))) refl
+returns-in-answer c = rw (text_from_reads c.args.field.now (codes "answer") (omega arith)
+    (omega arith, (omega arith, (omega arith, (omega arith, (omega arith, (omega arith, tt))))))) refl

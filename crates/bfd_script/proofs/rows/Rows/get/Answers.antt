@@ -4,7 +4,10 @@ use Rattle.bfd_script.proofs.rows.Rows.get.Goals as goal
 
 pub place_of-requires : goal.place_of-requires
 place_of-requires c =
-    record { ascends = subst Ascends (sym c.deref.ensures.value) (rising_alone c.self.inside.rising.items (values_of c.self.inside.others.entries) c.self.invariant.ascends) }
+    record {
+      ascends = subst Ascends (sym c.deref.ensures.value)
+          (rising_alone c.self.inside.rising.items (values_of c.self.inside.others.entries) c.self.invariant.ascends);
+    }
 
 -- it is among those that rise
 pub returns-in-Some : goal.returns-in-Some

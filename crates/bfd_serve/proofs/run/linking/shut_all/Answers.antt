@@ -6,7 +6,8 @@ use Rattle.bfd_serve.proofs.run.linking.shut_all.Goals as goal
 
 pub shut-requires-in-loop-link-clause-number : goal.shut-requires-in-loop-link-clause-number
 shut-requires-in-loop-link-clause-number g c =
-    next_number g.P.Link.Link.told c.loop-link.yielded c.next.new.self.rest.items c.args.links.items c.in-Some.link c.requires.theirs (cc (c.in-Some.ensures.steps.0)) c.loop-link.invariant.number
+    next_number g.P.Link.Link.told c.loop-link.yielded c.next.new.self.rest.items c.args.links.items c.in-Some.link c.requires.theirs
+    (cc (c.in-Some.ensures.steps.0)) c.loop-link.invariant.number
 
 pub loop-link-preserved : goal.loop-link-preserved
 loop-link-preserved g c = let i = c.loop-link.invariant in record {

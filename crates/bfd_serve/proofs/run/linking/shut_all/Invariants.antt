@@ -10,5 +10,6 @@ invariant-loop-link g l = record {
   number : l.number ≡ length l.yielded + 1;
   opened : (n : ℕ) → (g.P.Ports.told l.ports).opened n ≡ (g.P.Ports.told l.fn.ports).opened n;
   faults : (g.P.Ports.told l.ports).faults ≡ (g.P.Ports.told l.fn.ports).faults;
-  shut : (n : ℕ) → n ≤ length l.yielded → (g.P.Ports.told l.ports).shut n ≡ Some (g.P.Link.Link.told (slice_index_or (l.fn.own ∷ l.yielded) n l.fn.own));
+  shut : (n : ℕ) → n ≤ length l.yielded → (g.P.Ports.told l.ports).shut n
+      ≡ Some (g.P.Link.Link.told (slice_index_or (l.fn.own ∷ l.yielded) n l.fn.own));
 }

@@ -15,14 +15,19 @@ loop-configs-preserved g c =
     record {
       fit = next_fit (λ part. part.items) split i.fit;
       made = other_parts ss at c.in-Some.configs.items (map (λ part. part.items) c.next.new.self.rest.items) made d;
-      text = text_next ss at d inside c.index-states-shard.is c.loop-configs.text.items c.tell_shard.new.text.items _ i.text c.in_ok-sent.ensures.text;
-      entries = sum_next ss at d inside c.index-states-shard.is (λ history. length history.journal) c.loop-configs.entries (length c.journal.result.now) _ i.entries (ap length c.journal.ensures);
-      txs = sum_next ss at d inside c.index-states-shard.is shard_sent c.loop-configs.txs c.in_ok-sent.sent _ i.txs c.in_ok-sent.ensures.sent;
+      text = text_next ss at d inside c.index-states-shard.is c.loop-configs.text.items c.tell_shard.new.text.items _ i.text
+          c.in_ok-sent.ensures.text;
+      entries = sum_next ss at d inside c.index-states-shard.is (λ history. length history.journal) c.loop-configs.entries
+          (length c.journal.result.now) _ i.entries (ap length c.journal.ensures);
+      txs = sum_next ss at d inside c.index-states-shard.is shard_sent c.loop-configs.txs c.in_ok-sent.sent _ i.txs
+          c.in_ok-sent.ensures.sent;
       few = omega (arith, i.few, c.in_ok-sent.ensures.few, ap length c.journal.ensures);
     }
 
 pub returns : goal.returns
 returns g c =
     let i = c.loop-configs.invariant in
-    let none = none_made (λ part. part.items) (nil_from_length c.loop-configs.configs-iterator.rest.items (sym c.loop-configs.configs-iterator.rest.ok.0 ∙ c.in-None.ensures.steps.0)) i.made in
-    whole c.args.states.now c.loop-configs.shard c.loop-configs.text.items c.extend_from_slice.new.self.items c.loop-configs.entries c.loop-configs.txs c.args.lost none i.text i.entries i.txs (search rules)
+    let none = none_made (λ part. part.items) (nil_from_length c.loop-configs.configs-iterator.rest.items
+    (sym c.loop-configs.configs-iterator.rest.ok.0 ∙ c.in-None.ensures.steps.0)) i.made in
+    whole c.args.states.now c.loop-configs.shard c.loop-configs.text.items c.extend_from_slice.new.self.items c.loop-configs.entries
+    c.loop-configs.txs c.args.lost none i.text i.entries i.txs (search rules)

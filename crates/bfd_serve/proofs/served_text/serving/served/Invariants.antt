@@ -1,5 +1,6 @@
 -- With the shards that are left, the text and the counts are the whole.
-use Rattle.bfd_serve.proofs.ServedTextCommon.{◌≡◌, ◌≤◌, ◌+◌, ◌++◌, length, map, drop, sum_by, AllByRecursion, configs_of, shard_history, shard_sent, shards_text, AreFit}
+use Rattle.bfd_serve.proofs.ServedTextCommon.{◌≡◌, ◌≤◌, ◌+◌, ◌++◌, length, map, drop, sum_by, AllByRecursion, configs_of, shard_history}
+use Rattle.bfd_serve.proofs.ServedTextCommon.{shard_sent, shards_text, AreFit}
 use Rattle.bfd_serve.proofs.served_text.serving.served.Given as goal
 
 abbrev pub invariant-loop-configs : goal.invariant-loop-configs

@@ -6,12 +6,18 @@ use Rattle.bfd_serve.proofs.served_text.serving.tell_shard.Goals as goal
 
 pub tell_entries-requires-clause-can : goal.tell_entries-requires-clause-can
 tell_entries-requires-clause-can g c =
-    history_same (cc (c.in_ok-shard.ensures.sessions, started_configs c.args.configs.items)) c.journal-journal.ensures c.sessions.ensures.kept.history
+    history_same (cc (c.in_ok-shard.ensures.sessions, started_configs c.args.configs.items)) c.journal-journal.ensures
+    c.sessions.ensures.kept.history
 
 pub returns-clause-text : goal.returns-clause-text
 returns-clause-text g c = shard_told c.args.number
-    c.args.text.now.items (cc (c.in_ok-shard.ensures.sessions, started_configs c.args.configs.items)) c.journal-journal.ensures (search rules) c.in_ok-sent.ensures.text
+    c.args.text.now.items (cc (c.in_ok-shard.ensures.sessions, started_configs c.args.configs.items)) c.journal-journal.ensures
+    (search rules) c.in_ok-sent.ensures.text
 
 pub returns-clause-sent : goal.returns-clause-sent
 returns-clause-sent g c =
-    cc (c.in_ok-sent.ensures.sent, (ap configs_of c.in_ok-shard.ensures.sessions ∙ (started_configs c.args.configs.items ∙ c.requires.made)))
+    cc (
+      c.in_ok-sent.ensures.sent,
+      (ap configs_of c.in_ok-shard.ensures.sessions
+          ∙ (started_configs c.args.configs.items ∙ c.requires.made)),
+    )

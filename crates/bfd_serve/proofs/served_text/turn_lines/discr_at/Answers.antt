@@ -1,9 +1,11 @@
 -- The session at a place has the discriminator of the configuration at that place.
-use Rattle.bfd_serve.proofs.ServedTextCommon.{◌≡◌, ℕ, zero, suc, List, [], ◌∷◌, length, get_or, true, false, refl, sym, arith, nat_lt, slice_get, Running, configs_of, discr_of, discr_at}
+use Rattle.bfd_serve.proofs.ServedTextCommon.{◌≡◌, ℕ, zero, suc, List, [], ◌∷◌, length, get_or, true, false, refl, sym, arith, nat_lt}
+use Rattle.bfd_serve.proofs.ServedTextCommon.{slice_get, Running, configs_of, discr_of, discr_at}
 use Rattle.std.proofs.lemmas.Bool.Decides.{nat_tests}
 use Rattle.bfd_serve.proofs.served_text.turn_lines.discr_at.Goals as goal
 
-found : (ss : List Running) (k : ℕ) {s : Running} → true ≡ nat_lt k (length ss) → s ≡ get_or ss k s → discr_at (slice_get (configs_of ss) k) ≡ discr_of s.config
+found : (ss : List Running) (k : ℕ) {s : Running} → true ≡ nat_lt k (length ss) → s ≡ get_or ss k s
+    → discr_at (slice_get (configs_of ss) k) ≡ discr_of s.config
 found [] k below is = absurd (grind (arith, nat_tests))
 found (x ∷ ss) zero below is = cc
 found (x ∷ ss) (suc k) below is = found ss k (grind (arith, nat_tests)) is

@@ -8,6 +8,7 @@ pub at_start-requires : goal.at_start-requires
 at_start-requires g c =
     let own = share c.args.shards c.args.shard c.args.configs.now in
     record {
-      few = rw c.in_ok-sessions.ensures.sessions (omega (arith, length-map own started, few_share c.args.shards c.args.shard c.args.configs.now, c.requires.few));
+      few = rw c.in_ok-sessions.ensures.sessions (omega
+          (arith, length-map own started, few_share c.args.shards c.args.shard c.args.configs.now, c.requires.few));
       sound = c.in_ok-sessions.ensures.sound;
     }

@@ -7,7 +7,8 @@ pub invariant_of-result : goal.invariant_of-result
 invariant_of-result g c =
     let group = c.args.group in
     shard_made (configs_of group.sessions) c.args.limit (vec_capacity c.in_ok-journal.journal - vec_len c.in_ok-journal.journal)
-    (omega (arith, length-map group.sessions (λ s. s.config), c.sessions.ensures.few)) c.requires.start c.requires.last c.sessions.ensures.sound c.in_ok-journal.ensures.items
+    (omega (arith, length-map group.sessions (λ s. s.config), c.sessions.ensures.few)) c.requires.start c.requires.last
+    c.sessions.ensures.sound c.in_ok-journal.ensures.items
 
 pub returns-clause-kept : goal.returns-clause-kept
 returns-clause-kept g c = invariant_of-result g c

@@ -7,7 +7,8 @@ use Rattle.bfd_thread_tests.proofs.embedding.passes.add_job.Goals as goal
 pub returns-clause-added : goal.returns-clause-added
 returns-clause-added g c =
     let new = c.in_ok-pass.ensures.other in
-    let job : Job = record { pass = c.in_ok-pass.pass; calls = c.args.calls; saw = c.new.result; room = c.args.room; ended = Ok tt } in record {
+    let job : Job = record { pass = c.in_ok-pass.pass; calls = c.args.calls; saw = c.new.result; room = c.args.room; ended = Ok tt } in
+    record {
       job = job;
       after_is = cc (c.in_ok-reserve.ensures.items);
       ready = record { of = new.1; there = new.2; room = c.requires.room };

@@ -14,5 +14,9 @@ split_seat-other-requires g c =
     )
 
 pub load-requires : goal.load-requires
-load-requires g c = let seat = c.split_seat-other.result in
-    (search rules, search rules, checks g.V.Recorded.noted g.V.Recorded.caller g.V.Recorded.base c.self.inside.table.shared.table_id.slots seat.id seat.me.0 seat.me.1 (ap (λ m. m.0.role) c.split_seat-other.ensures.4))
+load-requires g c = let seat = c.split_seat-other.result in (
+  search rules,
+  search rules,
+  checks g.V.Recorded.noted g.V.Recorded.caller g.V.Recorded.base c.self.inside.table.shared.table_id.slots
+      seat.id seat.me.0 seat.me.1 (ap (λ m. m.0.role) c.split_seat-other.ensures.4),
+)

@@ -7,4 +7,5 @@ pub returns-clause-told : goal.returns-clause-told
 returns-clause-told g c = search rules
 
 pub returns-clause-whole : goal.returns-clause-whole
-returns-clause-whole g c = whole_more c.args.self.now.entries c.follow.new.shard.journal c.args.entry (search rules) (search rules) (returns-clause-told g c)
+returns-clause-whole g c = whole_more c.args.self.now.entries c.follow.new.shard.journal c.args.entry (search rules) (search rules)
+    (returns-clause-told g c)

@@ -4,7 +4,8 @@ use Rattle.bfd_script.specs.declared.fields.fault.BadLine.{BadLine as FaultyLine
 use Rattle.bfd_script.specs.Reading.{Lists, script_of}
 use Rattle.bfdd.proofs.job.serving.live_script.Goals as goal
 
-spelled_of : {bytes more : List ℕ} {read : Result Lists FaultyLine} → bytes ≡ more → script_of true bytes ≡ read → script_of true more ≡ read
+spelled_of : {bytes more : List ℕ} {read : Result Lists FaultyLine} → bytes ≡ more → script_of true bytes ≡ read
+    → script_of true more ≡ read
 spelled_of same is = rw (← same) is
 
 pub returns-in-Ok-read-clause-live : goal.returns-in-Ok-read-clause-live

@@ -12,10 +12,12 @@ loop-at-init c = record {
 
 pub loop-at-preserved : goal.loop-at-preserved
 loop-at-preserved c = let n = c.args.shards in let at = c.loop-at.at in let inside = c.loop-at-test.true in record {
-  whole = share_more n c.args.shard at (at + n) c.args.configs.now c.loop-at.part.items c.push.new.self.items c.index-configs-at.result c.requires.some.0 inside refl c.index-configs-at.is
+  whole = share_more n c.args.shard at (at + n) c.args.configs.now c.loop-at.part.items c.push.new.self.items c.index-configs-at.result
+      c.requires.some.0 inside refl c.index-configs-at.is
       (c.in_ok-push.ensures.items ∙ ap (λ y. c.loop-at.part.items ++ y ∷ []) c.copy.ensures) c.loop-at.invariant.whole;
   few = omega (arith, inside);
 }
 
 pub returns : goal.returns
-returns c = share_over c.args.shards c.args.shard c.loop-at.at c.args.configs.now c.loop-at.part.items (omega (arith, c.loop-at-test.false)) c.loop-at.invariant.whole
+returns c = share_over c.args.shards c.args.shard c.loop-at.at c.args.configs.now c.loop-at.part.items (omega (arith, c.loop-at-test.false))
+    c.loop-at.invariant.whole

@@ -7,7 +7,8 @@ use Rattle.bfdd.proofs.Copies.{watch_more}
 use Rattle.bfdd.proofs.watched_text.following.watches.Goals as goal
 
 pub make-requires-clause-few : goal.make-requires-clause-few
-make-requires-clause-few g c = rw c.in_ok-own.ensures (omega (arith, few_share c.args.shards c.loop-shard.shard c.args.configs.now, c.requires.few))
+make-requires-clause-few g c = rw c.in_ok-own.ensures
+    (omega (arith, few_share c.args.shards c.loop-shard.shard c.args.configs.now, c.requires.few))
 
 pub make-requires-clause-fit : goal.make-requires-clause-fit
 make-requires-clause-fit g c = rw c.in_ok-own.ensures (all_share IsFit c.args.shards c.loop-shard.shard c.args.configs.now c.requires.fit)
@@ -15,5 +16,7 @@ make-requires-clause-fit g c = rw c.in_ok-own.ensures (all_share IsFit c.args.sh
 pub loop-shard-preserved : goal.loop-shard-preserved
 loop-shard-preserved g c = record {
   long = omega (arith, c.loop-shard.invariant.long, c.in_ok-push.ensures.len);
-  each = λ r h. watch_more c.args.shards c.loop-shard.shard c.args.limit c.args.configs.now c.loop-shard.list.items _ _ c.in_ok-push.ensures.items c.loop-shard.invariant.long (c.in_ok-make.ensures ∙ ap (λ cs. watching cs [] c.args.limit) c.in_ok-own.ensures) c.loop-shard.invariant.each r h;
+  each = λ r h. watch_more c.args.shards c.loop-shard.shard c.args.limit c.args.configs.now c.loop-shard.list.items _ _
+      c.in_ok-push.ensures.items c.loop-shard.invariant.long
+      (c.in_ok-make.ensures ∙ ap (λ cs. watching cs [] c.args.limit) c.in_ok-own.ensures) c.loop-shard.invariant.each r h;
 }

@@ -36,23 +36,27 @@ returns-in-Err-clause-kept g c =
 pub returns-in-Err-clause-stopped : goal.returns-in-Err-clause-stopped
 returns-in-Err-clause-stopped g c =
     let split : c.loop-line.line-iterator.rest.items ≡ c.in-Some.line ∷ c.next.new.self.rest.items = search rules in
-    refused_stopped c.happen.new.pass c.in-Err.fault c.loop-line.invariant.told (omega (arith, ap length split, c.loop-line.invariant.numbers, c.requires.limit)) c.in-Err.ensures.refused
+    refused_stopped c.happen.new.pass c.in-Err.fault c.loop-line.invariant.told
+    (omega (arith, ap length split, c.loop-line.invariant.numbers, c.requires.limit)) c.in-Err.ensures.refused
 
 pub returns-in-Err-poll_all-clause-kept : goal.returns-in-Err-poll_all-clause-kept
 returns-in-Err-poll_all-clause-kept g c =
     let split : c.loop-line.line-iterator.rest.items ≡ c.in-Some.line ∷ c.next.new.self.rest.items = search rules in
-    kept_less (omega (arith, ap length split, c.loop-line.invariant.numbers)) (kept_then (kept_then c.loop-line.invariant.kept c.happen.ensures.kept) c.poll_all.ensures.kept)
+    kept_less (omega (arith, ap length split, c.loop-line.invariant.numbers))
+    (kept_then (kept_then c.loop-line.invariant.kept c.happen.ensures.kept) c.poll_all.ensures.kept)
 
 pub returns-in-Err-poll_all-clause-stopped : goal.returns-in-Err-poll_all-clause-stopped
 returns-in-Err-poll_all-clause-stopped g c =
     let split : c.loop-line.line-iterator.rest.items ≡ c.in-Some.line ∷ c.next.new.self.rest.items = search rules in
-    untaken_stopped c.in-Some.line c.in-Err-poll_all.fault c.loop-line.invariant.told (omega (arith, ap length split, c.loop-line.invariant.numbers, c.requires.limit)) c.in-Ok.ensures.went
+    untaken_stopped c.in-Some.line c.in-Err-poll_all.fault c.loop-line.invariant.told
+    (omega (arith, ap length split, c.loop-line.invariant.numbers, c.requires.limit)) c.in-Ok.ensures.went
     c.poll_all.ensures.went c.in-Err-poll_all.ensures.untaken
 
 pub returns-in_default-clause-kept : goal.returns-in_default-clause-kept
 returns-in_default-clause-kept g c =
     let split : c.loop-line.line-iterator.rest.items ≡ c.in-Some.line ∷ c.next.new.self.rest.items = search rules in
-    kept_less (omega (arith, ap length split, c.loop-line.invariant.numbers)) (kept_then (kept_then c.loop-line.invariant.kept c.happen.ensures.kept) c.poll_all.ensures.kept)
+    kept_less (omega (arith, ap length split, c.loop-line.invariant.numbers))
+    (kept_then (kept_then c.loop-line.invariant.kept c.happen.ensures.kept) c.poll_all.ensures.kept)
 
 pub loop-line-preserved : goal.loop-line-preserved
 loop-line-preserved g c =
@@ -65,7 +69,8 @@ loop-line-preserved g c =
       kept = kept_less (omega arith) (kept_then (kept_then c.loop-line.invariant.kept c.happen.ensures.kept) c.poll_all.ensures.kept);
       watched = c.in-Ok-poll_all.ensures.watched;
       room = λ shard. omega (arith, c.loop-line.invariant.room shard, c.happen.ensures.room);
-      told = told_next c.requires.some c.requires.ascends c.loop-line.invariant.told split c.in-Ok.ensures.went c.poll_all.ensures.went c.loop-line.invariant.watched
+      told = told_next c.requires.some c.requires.ascends c.loop-line.invariant.told split c.in-Ok.ensures.went c.poll_all.ensures.went
+          c.loop-line.invariant.watched
           (λ d. are ∙ c.in-Ok-poll_all.ensures.told d) (search rules) c.in-Ok-tell.ensures.told c.in-Ok-tell.ensures.after;
       few = few_step c.loop-line.text.items c.loop-line.number cs c.loop-line.group c.in-Ok-tell.ensures.told c.loop-line.invariant.few;
       numbers = omega (arith, ap length split, c.loop-line.invariant.numbers);
@@ -79,4 +84,5 @@ returns-clause-kept g c = kept_less (omega (arith, c.loop-line.invariant.numbers
 
 pub returns-clause-told : goal.returns-clause-told
 returns-clause-told g c = λ s.
-    told_all (nil_from_length c.loop-line.line-iterator.rest.items (sym c.loop-line.line-iterator.rest.ok.0 ∙ c.in-None.ensures.steps.0)) c.loop-line.invariant.told c.in-Ok-close.ensures.told s
+    told_all (nil_from_length c.loop-line.line-iterator.rest.items (sym c.loop-line.line-iterator.rest.ok.0 ∙ c.in-None.ensures.steps.0))
+    c.loop-line.invariant.told c.in-Ok-close.ensures.told s

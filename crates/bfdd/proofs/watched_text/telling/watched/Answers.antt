@@ -13,10 +13,12 @@ use Rattle.bfdd.proofs.Closing.{first_watched, room_enough, in_order, taken_apar
 use Rattle.bfdd.proofs.watched_text.telling.watched.Goals as goal
 
 pub tell-told-requires-clause-ascends : goal.tell-told-requires-clause-ascends
-tell-told-requires-clause-ascends g c = in_order c.in_ok-engine.ensures.engine (taken_apart c.script.view_is c.requires.script).configs.ascends
+tell-told-requires-clause-ascends g c = in_order c.in_ok-engine.ensures.engine
+    (taken_apart c.script.view_is c.requires.script).configs.ascends
 
 pub tell-told-requires-clause-watched : goal.tell-told-requires-clause-watched
-tell-told-requires-clause-watched g c = first_watched c.in_ok-engine.ensures.engine c.deref-2.ensures.value (search rules) c.in_ok-engine.ensures.pass c.in_ok-watches.ensures.long c.in_ok-watches.ensures.each
+tell-told-requires-clause-watched g c = first_watched c.in_ok-engine.ensures.engine c.deref-2.ensures.value (search rules)
+    c.in_ok-engine.ensures.pass c.in_ok-watches.ensures.long c.in_ok-watches.ensures.each
 
 pub tell-told-requires-clause-room : goal.tell-told-requires-clause-room
 tell-told-requires-clause-room g c = room_enough c.in_ok-engine.ensures.engine (search rules)
@@ -28,11 +30,17 @@ pub close-states-requires-clause-joined : goal.close-states-requires-clause-join
 close-states-requires-clause-joined g c = none_open c.in_ok-engine.ensures.pass c.tell-told.ensures.kept
 
 pub text_of-requires : goal.text_of-requires
-text_of-requires g c = IfErr-weaker c.tell-told.result (λ fault. IsCutShort fault c.in_ok-engine.engine c.tell-told.new.pass) (λ fault. fault ≡ Memory)
-    (λ fault. never_stopped fault c.in_ok-engine.ensures.pass c.tell-told.ensures.kept (omega (arith, (taken_apart c.script.view_is c.requires.script).events.few)) c.close-states.ensures.closed) c.tell-told.ensures.stopped
+text_of-requires g c = IfErr-weaker c.tell-told.result (λ fault. IsCutShort fault c.in_ok-engine.engine c.tell-told.new.pass)
+    (λ fault. fault ≡ Memory)
+    (λ fault. never_stopped fault c.in_ok-engine.ensures.pass c.tell-told.ensures.kept
+    (omega (arith, (taken_apart c.script.view_is c.requires.script).events.few)) c.close-states.ensures.closed) c.tell-told.ensures.stopped
 
 pub returns : goal.returns
-returns g c = IfOk-weaker c.text_of.result (λ text. c.tell-told.result ≡ Ok text) (λ text. text.items ≡ watched_of c.args.need c.args.members.now c.args.script)
-    (λ text same. closed_text c.args.members.now c.script.view_is c.in_ok-engine.ensures.engine c.in_ok-engine.ensures.pass c.tell-told.ensures.kept c.close-states.ensures.closed
-    (IfOk-at_ok (λ t. AllSole (length c.in_ok-engine.engine.locks) c.tell-told.new.pass → t.items ≡ watch.watched (happening_outcomes 0 (happenings c.in_ok-engine.engine.configs c.in_ok-engine.engine.pool c.script.inside.events.items) (map started c.in_ok-engine.engine.configs)) c.in_ok-group.group) same c.tell-told.ensures.told)
+returns g c = IfOk-weaker c.text_of.result (λ text. c.tell-told.result ≡ Ok text)
+    (λ text. text.items ≡ watched_of c.args.need c.args.members.now c.args.script)
+    (λ text same. closed_text c.args.members.now c.script.view_is c.in_ok-engine.ensures.engine c.in_ok-engine.ensures.pass
+    c.tell-told.ensures.kept c.close-states.ensures.closed
+    (IfOk-at_ok (λ t. AllSole (length c.in_ok-engine.engine.locks) c.tell-told.new.pass
+    → t.items ≡ watch.watched (happening_outcomes 0 (happenings c.in_ok-engine.engine.configs c.in_ok-engine.engine.pool
+    c.script.inside.events.items) (map started c.in_ok-engine.engine.configs)) c.in_ok-group.group) same c.tell-told.ensures.told)
     (c.in_ok-group.ensures ∙ ap (λ cs. group_in c.args.need c.args.members.now (map started cs)) c.deref.ensures.value)) c.text_of.ensures

@@ -16,7 +16,13 @@ invariant_of-self-in-Ok g c =
 pub invariant_of-self-in-Err : goal.invariant_of-self-in-Err
 invariant_of-self-in-Err g c =
     let e = c.in_ok-place.ensures in
-    rw (c.in-Err.ensures.items, c.remove.ensures.world, e.world, c.discr-discr.ensures, undone c.args.config c.self.inside.instance.world e.fault)
+    rw (
+      c.in-Err.ensures.items,
+      c.remove.ensures.world,
+      e.world,
+      c.discr-discr.ensures,
+      undone c.args.config c.self.inside.instance.world e.fault,
+    )
     c.self.invariant
 
 pub returns-in-Err-clause-same : goal.returns-in-Err-clause-same

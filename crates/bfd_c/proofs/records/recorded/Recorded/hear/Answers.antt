@@ -9,12 +9,14 @@ pub note_all-requires : goal.note_all-requires
 note_all-requires g c =
     let happened = c.hear-answer in
     as_many c.note_came.new.records.items happened.new.self.world.sessions
-    (came_keeps (Rx c.args.moment c.args.arrival) c.self.inside.instance.world happened.new.self.world happened.new.self.items happened.result.0 happened.result.1 c.came_on-came.result
+    (came_keeps (Rx c.args.moment c.args.arrival) c.self.inside.instance.world happened.new.self.world happened.new.self.items
+    happened.result.0 happened.result.1 c.came_on-came.result
     c.self.inside.records.items c.note_came.new.records.items happened.ensures.turn c.self.invariant c.note_came.ensures)
 
 pub invariant_of-self : goal.invariant_of-self
 invariant_of-self g c =
     let happened = c.hear-answer in
     ap kinds_in c.note_all.ensures ∙ given_keeps happened.new.self.world c.note_came.new.records.items happened.new.self.items
-    ∙ came_keeps (Rx c.args.moment c.args.arrival) c.self.inside.instance.world happened.new.self.world happened.new.self.items happened.result.0 happened.result.1 c.came_on-came.result
+    ∙ came_keeps (Rx c.args.moment c.args.arrival) c.self.inside.instance.world happened.new.self.world happened.new.self.items
+    happened.result.0 happened.result.1 c.came_on-came.result
     c.self.inside.records.items c.note_came.new.records.items happened.ensures.turn c.self.invariant c.note_came.ensures

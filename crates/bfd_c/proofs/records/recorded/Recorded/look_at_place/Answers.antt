@@ -10,7 +10,8 @@ use Rattle.bfd_c.proofs.Finding.{there}
 use Rattle.bfd_c.proofs.Keeping.{kind_there}
 use Rattle.bfd_c.proofs.records.recorded.Recorded.look_at_place.Goals as goal
 
-seen_there : (w : World) (rs : List Record) (place : ℕ) (s : Running) (r : Record) (l : Look) → slice_get w.sessions place ≡ Some s → slice_get rs place ≡ Some r
+seen_there : (w : World) (rs : List Record) (place : ℕ) (s : Running) (r : Record) (l : Look) → slice_get w.sessions place ≡ Some s
+    → slice_get rs place ≡ Some r
     → l ≡ look_at s r → Some l ≡ look_in (Some place) w rs
 seen_there w rs place s r l at_s at_r is = rw (at_s, at_r, is) refl
 
@@ -19,13 +20,15 @@ seen-requires g c =
     let s = c.in_ok-session.ensures.lookup in let r = c.in_ok-kept.ensures.lookup in
     kind_there c.deref.result.now c.sessions.result.now c.args.place c.in_ok-kept.kept.now c.in_ok-session.session.now
     (rw (c.deref.ensures.value, c.sessions.ensures.value) c.self.invariant)
-    (there c.deref.result.now c.args.place c.in_ok-kept.kept.now r.0 r.1) (there c.sessions.result.now c.args.place c.in_ok-session.session.now s.0 s.1)
+    (there c.deref.result.now c.args.place c.in_ok-kept.kept.now r.0 r.1)
+    (there c.sessions.result.now c.args.place c.in_ok-session.session.now s.0 s.1)
 
 pub returns : goal.returns
 returns g c =
     let s = c.in_ok-session.ensures.lookup in let r = c.in_ok-kept.ensures.lookup in
     rw (← c.self.view_is)
-    (seen_there c.self.inside.instance.world c.self.inside.records.items c.args.place c.in_ok-session.session.now c.in_ok-kept.kept.now c.seen.result
+    (seen_there c.self.inside.instance.world c.self.inside.records.items c.args.place c.in_ok-session.session.now c.in_ok-kept.kept.now
+    c.seen.result
     (rw (← c.sessions.ensures.value) (there c.sessions.result.now c.args.place c.in_ok-session.session.now s.0 s.1))
     (rw (← c.deref.ensures.value) (there c.deref.result.now c.args.place c.in_ok-kept.kept.now r.0 r.1))
     c.seen.ensures)

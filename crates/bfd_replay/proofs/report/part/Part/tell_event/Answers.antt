@@ -5,15 +5,21 @@ use Rattle.bfd_replay.proofs.report.part.Part.tell_event.Goals as goal
 
 pub invariant_of-self : goal.invariant_of-self
 invariant_of-self c =
-    part_by c.append_event.result c.self.inside.marks.items c.append_event.new.marks.items c.self.inside.text.items c.append_event.new.text.items
-    (whole_piece c.args.number (record { items = c.args.outs.now; answer = c.args.answer.now }) ∷ []) c.self.invariant c.append_event.ensures.mark
-    (single c.append_event.result c.self.inside.text.items c.append_event.new.text.items (whole_piece c.args.number (record { items = c.args.outs.now; answer = c.args.answer.now })) c.append_event.ensures.text)
+    part_by c.append_event.result c.self.inside.marks.items c.append_event.new.marks.items c.self.inside.text.items
+    c.append_event.new.text.items
+    (whole_piece c.args.number (record { items = c.args.outs.now; answer = c.args.answer.now }) ∷ []) c.self.invariant
+    c.append_event.ensures.mark
+    (single c.append_event.result c.self.inside.text.items c.append_event.new.text.items
+    (whole_piece c.args.number (record { items = c.args.outs.now; answer = c.args.answer.now })) c.append_event.ensures.text)
     c.append_event.ensures.same_marks c.append_event.ensures.same_text
     (whole_has c.args.number (record { items = c.args.outs.now; answer = c.args.answer.now }), tt)
 
 pub returns-clause-told : goal.returns-clause-told
 returns-clause-told c =
-    told_by c.append_event.result c.self.inside.marks.items c.append_event.new.marks.items c.self.inside.text.items c.append_event.new.text.items
-    (whole_piece c.args.number (record { items = c.args.outs.now; answer = c.args.answer.now }) ∷ []) c.args.self.now c.self.invariant c.self.view_is
+    told_by c.append_event.result c.self.inside.marks.items c.append_event.new.marks.items c.self.inside.text.items
+    c.append_event.new.text.items
+    (whole_piece c.args.number (record { items = c.args.outs.now; answer = c.args.answer.now }) ∷ []) c.args.self.now c.self.invariant
+    c.self.view_is
     c.append_event.ensures.mark
-    (single c.append_event.result c.self.inside.text.items c.append_event.new.text.items (whole_piece c.args.number (record { items = c.args.outs.now; answer = c.args.answer.now })) c.append_event.ensures.text)
+    (single c.append_event.result c.self.inside.text.items c.append_event.new.text.items
+    (whole_piece c.args.number (record { items = c.args.outs.now; answer = c.args.answer.now })) c.append_event.ensures.text)

@@ -5,11 +5,15 @@ use Rattle.bfd_replay.proofs.report.part.Part.tell_tick.Goals as goal
 
 pub invariant_of-self : goal.invariant_of-self
 invariant_of-self c =
-    part_by c.append_items.result c.self.inside.marks.items c.append_items.new.marks.items c.self.inside.text.items c.append_items.new.text.items
-    (map (item_piece c.args.number) c.args.outs.now) c.self.invariant c.append_items.ensures.mark c.append_items.ensures.text c.append_items.ensures.same_marks c.append_items.ensures.same_text
+    part_by c.append_items.result c.self.inside.marks.items c.append_items.new.marks.items c.self.inside.text.items
+    c.append_items.new.text.items
+    (map (item_piece c.args.number) c.args.outs.now) c.self.invariant c.append_items.ensures.mark c.append_items.ensures.text
+    c.append_items.ensures.same_marks c.append_items.ensures.same_text
     (items_have c.args.number c.args.outs.now)
 
 pub returns-clause-told : goal.returns-clause-told
 returns-clause-told c =
-    told_by c.append_items.result c.self.inside.marks.items c.append_items.new.marks.items c.self.inside.text.items c.append_items.new.text.items
-    (map (item_piece c.args.number) c.args.outs.now) c.args.self.now c.self.invariant c.self.view_is c.append_items.ensures.mark c.append_items.ensures.text
+    told_by c.append_items.result c.self.inside.marks.items c.append_items.new.marks.items c.self.inside.text.items
+    c.append_items.new.text.items
+    (map (item_piece c.args.number) c.args.outs.now) c.args.self.now c.self.invariant c.self.view_is c.append_items.ensures.mark
+    c.append_items.ensures.text

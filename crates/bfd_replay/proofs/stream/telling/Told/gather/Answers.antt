@@ -4,9 +4,11 @@ use Rattle.bfd_replay.specs.Spread.{dealt_text}
 use Rattle.bfd_replay.proofs.stream.telling.Told.gather.Goals as goal
 
 pub returns-in-Ok-clause-front : goal.returns-in-Ok-clause-front
-returns-in-Ok-clause-front g c = λ dealt spread. subst (λ t. TookFront (g.K.Sink.taken c.args.sink.now) (g.K.Sink.taken c.give_all.new.sink) (t ++ dealt_text dealt)) (ap (λ (t : Telling). t.text) c.self.view_is)
+returns-in-Ok-clause-front g c = λ dealt spread. subst (λ t. TookFront (g.K.Sink.taken c.args.sink.now) (g.K.Sink.taken c.give_all.new.sink)
+    (t ++ dealt_text dealt)) (ap (λ (t : Telling). t.text) c.self.view_is)
     (c.give_all.ensures.front dealt spread)
 
 pub returns-clause-front : goal.returns-clause-front
-returns-clause-front g c = λ dealt spread. subst (λ t. TookFront (g.K.Sink.taken c.args.sink.now) (g.K.Sink.taken c.give_all.new.sink) (t ++ dealt_text dealt)) (ap (λ (t : Telling). t.text) c.self.view_is)
+returns-clause-front g c = λ dealt spread. subst (λ t. TookFront (g.K.Sink.taken c.args.sink.now) (g.K.Sink.taken c.give_all.new.sink)
+    (t ++ dealt_text dealt)) (ap (λ (t : Telling). t.text) c.self.view_is)
     (c.give_all.ensures.front dealt spread)
