@@ -1,6 +1,6 @@
 //! Bounded buffers of bytes, which contracts see as lists.
 
-ghost use Rattle.std.specs.Prelude.{◌≡◌, ◌≤◌, IfOk, IsOk, length, take};
+ghost use Rattle.std.specs.Prelude.{◌≡◌, ◌≤◌, ◌+◌, ◌++◌, IfOk, IsOk, length, take};
 
 use arrayvec::ArrayVec;
 use std::alloc::{AllocError, Global};
@@ -15,15 +15,18 @@ const IN_PLACE: usize = 52;
 /// The bytes of a control packet as it is sent: at most 52, since the greatest section has 28.
 #[derive(Default, Drop)]
 pub struct Wire {
-    bytes: ArrayVec<u8, 52>,
+    bytes: [u8; 52],
+    size: u8,
 }
 
 impl Model for Wire {
-    ghost use Rattle.std.specs.Prelude.{List, ℕ};
+    ghost use Rattle.std.specs.Prelude.{List, ℕ, ◌≤◌, take};
 
     ghost Value = { List ℕ };
 
-    ghost view = { λ wire. wire.bytes.items };
+    ghost view = { λ wire. take wire.size wire.bytes };
+
+    ghost invariant = { λ wire. wire.size ≤ 52 };
 }
 
 impl Wire {
@@ -32,9 +35,28 @@ impl Wire {
         requires { length bytes.now ≤ 52 }
         ensures { result ≡ bytes.now }
     {
-        let mut kept = ArrayVec::new();
-        kept.try_extend_from_slice(bytes).unwrap();
-        Wire { bytes: kept }
+        let mut room = [0; IN_PLACE];
+        room[..bytes.len()].copy_from_slice(bytes);
+        Wire::front(room, bytes.len() as u8)
+    }
+
+    /// The first bytes of an array, so many.
+    pub fn front(bytes: [u8; 52], size: u8) -> Self
+        requires { size ≤ 52 }
+        ensures { result ≡ take size bytes }
+    {
+        Wire { bytes, size }
+    }
+
+    /// Puts these bytes behind the others.
+    pub(crate) fn append(&mut self, bytes: &[u8])
+        requires { length self.old + length bytes.now ≤ 52 }
+        ensures { self.new ≡ self.old ++ bytes.now }
+    {
+        let from = usize::from(self.size);
+        let to = from + bytes.len();
+        self.bytes[from..to].copy_from_slice(bytes);
+        self.size = to as u8;
     }
 
     /// The bytes, at most 52.
@@ -42,7 +64,7 @@ impl Wire {
         ensures value { result.now ≡ self.now }
         ensures few { length self.now ≤ 52 }
     {
-        self.bytes.as_slice()
+        &self.bytes[..usize::from(self.size)]
     }
 }
 
@@ -111,6 +133,16 @@ impl Payload {
         ensures short { length bytes.now ≤ 52 → IsOk result }
     {
         Payload::of(alloc, front(bytes, KEPT))
+    }
+
+    /// The first bytes of an array, so many, with no copy of them.
+    pub fn front(bytes: [u8; 52], size: u8) -> Self
+        requires { size ≤ 52 }
+        ensures { result ≡ take size bytes }
+    {
+        Payload {
+            bytes: Kept::Short(Wire::front(bytes, size)),
+        }
     }
 
     /// An equal payload. It fails only when out of memory, and never for up to 52 bytes.

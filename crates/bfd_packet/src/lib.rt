@@ -25,5 +25,5 @@ pub use buffers::{AuthBytes, Payload, Wire};
 pub use control::{Control, State};
 pub use discard::Test;
 pub use keys::{AuthType, Key, KeyList, Keys, Secret, SeqState};
-pub use reading::{header_test, read};
-pub use writing::write;
+pub use reading::{fields, header_test, read};
+pub use writing::{write, write_plain};

@@ -49,8 +49,9 @@ pub fn read(port: Port, payload: &[u8]) -> Result<Control, Test>
     }
 }
 
-// Each field, by its position.
-fn fields(payload: &[u8]) -> Control
+/// Each field of a payload of 24 bytes or more, by its position (RFC 5880 section 4.1): what `read` gives where the tests on the header
+/// were made before.
+pub fn fields(payload: &[u8]) -> Control
     requires { 24 ≤ length payload.now }
     ensures { result ≡ fields_of payload.now }
 {

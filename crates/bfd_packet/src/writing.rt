@@ -1,12 +1,11 @@
 //! A control packet as bytes.
 
-ghost use Rattle.std.specs.Prelude.{◌≡◌, ◌≢◌, ◌<◌, ◌≤◌, length, ◌^◌, Ok};
+ghost use Rattle.std.specs.Prelude.{◌≡◌, ◌≢◌, ◌<◌, ◌≤◌, [], length, ◌^◌, Ok};
 ghost use Rattle.bfd_packet.specs.declared.arrival.Port.{Port};
 ghost use Rattle.bfd_packet.specs.Layout.{HasWords, as_sent, bit_of, flag_byte, header_of, state_number, text_of};
 ghost use Rattle.bfd_packet.specs.HeaderTests.{PassesHeader, read_of};
 
 use crate::{AuthBytes, Control, State, Wire};
-use arrayvec::ArrayVec;
 use byteorder::{BigEndian, ByteOrder};
 
 /// The bytes of a control packet with an authentication section, which may be empty (RFC 5880 section 4.1).
@@ -24,6 +23,15 @@ pub fn write(c: &Control, section: &AuthBytes) -> Wire
     packed(c, section)
 }
 
+/// The bytes of a control packet without an authentication section, as `write` gives them for an empty one. `diag` is below 32.
+#[tactic(auto, unfolding(crate::specs::Layout::text_of))]
+pub fn write_plain(c: &Control) -> Wire
+    requires { c.now.diag < 32 }
+    ensures { result ≡ text_of c.now [] }
+{
+    Wire::of(&header(c, &[]))
+}
+
 // The same bytes, and that the words are of 32 bits.
 #[tactic(auto, unfolding(crate::specs::Layout::text_of))]
 fn packed(c: &Control, section: &AuthBytes) -> Wire
@@ -32,11 +40,9 @@ fn packed(c: &Control, section: &AuthBytes) -> Wire
     ensures words { HasWords c.now }
 {
     let section = section.as_slice();
-    let header = header(c, section);
-    let mut bytes = ArrayVec::<u8, 52>::new();
-    bytes.try_extend_from_slice(header.as_slice()).unwrap();
-    bytes.try_extend_from_slice(section).unwrap();
-    Wire::of(bytes.as_slice())
+    let mut wire = Wire::of(&header(c, section));
+    wire.append(section);
+    wire
 }
 
 // The mandatory section.
