@@ -27,7 +27,7 @@ use crate::beating::beats;
 use crate::commanding::commands;
 use crate::finishing::finish;
 use crate::frame::moves;
-use crate::receiving::{accepts, fields, judged};
+use crate::receiving::{accepts, fields_of_passed, judged};
 use crate::settling::settle;
 use bfd_packet::{Keys, SeqState, State};
 use bfd_rules::{
@@ -198,7 +198,7 @@ impl P2p {
         ensures sized { IsSized (fields_of raw.now) }
         ensures rests { result ≡ false → self.new ≡ self.old }
     {
-        let packet = fields(self.config.role, raw);
+        let packet = fields_of_passed(raw);
         hears(&self.config, eff, ttl, &packet, raw, &mut self.vars)
     }
 
@@ -245,7 +245,7 @@ impl P2p {
         ensures spare { outs.old.spare ≤ outs.new.spare + 2 }
         ensures room { outs.new.room ≡ outs.old.room }
     {
-        let packet = fields(self.config.role, raw);
+        let packet = fields_of_passed(raw);
         match judged(&self.config, &self.vars, ttl, &packet, raw) {
             Ok(seq) => accepts(&self.config, eff, &packet, seq, &mut self.vars, mark, outs),
             Err(test) => Verdict::Dropped(test),

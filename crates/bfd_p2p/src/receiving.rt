@@ -1,6 +1,7 @@
 //! The reception of a control packet after settling (RFC 5880 section 6.8.6).
 ghost use Rattle.std.specs.Prelude.{◌≡◌, ◌≢◌, ◌<◌, ◌≤◌, ◌+◌, ◌^◌, false, true, None, Some, IsSome, List, length, find};
 ghost use Rattle.bfd_num.specs.Numbers.{moment_bound};
+ghost use Rattle.bfd_packet.specs.declared.arrival.Port.{Port as PortOf};
 ghost use Rattle.bfd_packet.specs.declared.control.Control.{Control as ControlOf};
 ghost use Rattle.bfd_packet.specs.Layout.{fields_of};
 ghost use Rattle.bfd_packet.specs.HeaderTests.{first_failing};
@@ -18,7 +19,7 @@ ghost use Rattle.bfd_p2p.specs.Port.{port_of};
 use crate::frame::{moves, renews};
 use crate::transmitting::transmits;
 use bfd_auth::verify;
-use bfd_packet::{Control, Keys, Port, SeqState, State, Test, read};
+use bfd_packet::{Control, Keys, Port, SeqState, State, Test, fields};
 use bfd_rules::{Config, Mark, Outs, Poll, Role, Vars, Verdict, enters, is_admin_down};
 
 /// The first of the session's tests on TTL and the A bit that the packet fails.
@@ -334,16 +335,13 @@ pub fn control_port(role: Role) -> Port
     }
 }
 
-/// The fields of a packet that passes its port's header tests.
-pub fn fields(role: Role, raw: &[u8]) -> Control
-    requires { first_failing (port_of role) raw.now ≡ None }
+/// The fields of a packet that passed its port's header tests, which aren't made again.
+pub fn fields_of_passed(raw: &[u8]) -> Control
+    requires { (port : PortOf) × (first_failing port raw.now ≡ None) }
     ensures fields { result ≡ fields_of raw.now }
     ensures mult { result.mult ≢ 0 }
     ensures sized { IsSized result }
     ensures length { result.length ≤ length raw.now }
 {
-    match read(control_port(role), raw) {
-        Ok(packet) => packet,
-        Err(_) => unreachable!(),
-    }
+    fields(raw)
 }

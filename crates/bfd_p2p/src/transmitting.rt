@@ -6,7 +6,7 @@ ghost use Rattle.bfd_rules.specs.Sound.{IsPlace};
 ghost use Rattle.bfd_p2p.specs.Transmit as transmit;
 
 use bfd_auth::seal;
-use bfd_packet::{AuthBytes, Control, Datagram, Keys, SOURCE_PORT, SeqState, Wire, write};
+use bfd_packet::{Control, Datagram, Keys, SOURCE_PORT, SeqState, Wire, write_plain};
 use bfd_rules::{Config, Outs, Role, Vars, adv_tx, demand_here, sends};
 
 /// The fields of a transmitted packet, with P and F as the rule that sends it says.
@@ -69,7 +69,7 @@ pub fn transmits_plain(config: &Config, poll: bool, fin: bool, vars: &Vars, outs
     ensures spare { outs.old.spare ≤ outs.new.spare + 1 }
     ensures room { outs.new.room ≡ outs.old.room }
 {
-    let bytes = write(&packet_of(config, vars, poll, fin), &AuthBytes::default());
+    let bytes = write_plain(&packet_of(config, vars, poll, fin));
     sends(config.discr, datagram_of(config, bytes), outs);
 }
 
