@@ -20,8 +20,8 @@ use bfd_packet::Arrival;
 use bfd_rules::{Out, Outs};
 use bfd_sbfd::Reflector;
 use bfd_script::line::Line;
-use bfd_session::{Answer, Roster, Session, SessionConfig, Table, table_of};
-use bfd_shard::Sessions;
+use bfd_session::{Answer, Roster, SessionConfig, Table, table_of};
+use bfd_shard::{Seat, Sessions};
 use bfd_wheel::Timers;
 use std::alloc::{AllocError, Global};
 use std::marker::{Brand, Model};
@@ -253,7 +253,7 @@ impl<W: Timers> Instance<W> {
     }
 
     /// The sessions, by ascending discriminator.
-    pub fn sessions(&self) -> &[Session]
+    pub fn sessions(&self) -> &[Seat]
         ensures value { result.now ≡ self.now.world.sessions }
         ensures ascends { Ascends (configs_of result.now) }
     {

@@ -7,7 +7,7 @@ ghost use Rattle.bfd_replay.specs.Counts.{one_up, sum_to};
 use crate::report::Counts;
 use bfd_packet::State;
 use bfd_session::Session;
-use bfd_shard::ShardState;
+use bfd_shard::{Seat, ShardState};
 use bfd_wheel::Timers;
 use std::snapshot::Snapshot;
 
@@ -35,14 +35,14 @@ fn counted(session: &Session) -> u32
 }
 
 /// How many of the sessions are Up.
-fn up_in(sessions: &[Session]) -> u32
+fn up_in(sessions: &[Seat]) -> u32
     requires few { length sessions.now ≤ 65536 }
     ensures value { result ≡ sum_by one_up sessions.now }
     ensures few { result ≤ 65536 }
 {
     let mut count = 0u32;
-    for session in sessions {
-        count += counted(session);
+    for seat in sessions {
+        count += counted(seat.session());
     }
     count
 }

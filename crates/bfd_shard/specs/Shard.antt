@@ -1,5 +1,5 @@
 -- What a shard keeps between events.
-use Rattle.std.specs.Prelude.{ℕ, ◌≡◌, ◌≤◌, ◌*◌, ◌++◌, false, List, [], ◌∷◌, length, map}
+use Rattle.std.specs.Prelude.{ℕ, ◌≡◌, ◌≤◌, ◌*◌, ◌++◌, false, List, [], ◌∷◌, length}
 use Rattle.std.specs.List.{AllByRecursion}
 use Rattle.bfd_num.specs.Numbers.{greatest_tick}
 use Rattle.bfd_num.specs.Due.{has_come}

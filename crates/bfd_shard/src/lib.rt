@@ -15,6 +15,7 @@
 mod entry;
 mod law;
 mod own;
+mod seat;
 mod sessions;
 mod shard;
 mod start;
@@ -22,5 +23,6 @@ mod ticking;
 
 pub use entry::{Entry, Full, ShardEvent};
 pub use law::{expiry_laws, history_laws, own_laws};
+pub use seat::Seat;
 pub use sessions::Sessions;
 pub use shard::ShardState;

@@ -7,9 +7,10 @@ ghost use Rattle.bfd_session.specs.Due.{due as due_tick};
 ghost use Rattle.bfd_session.specs.Kinds.{Running};
 ghost use Rattle.bfd_session.specs.Step.{CanTake, IsSound};
 
+use crate::seat::Seat;
 use bfd_num::Steps;
 use bfd_rules::Outs;
-use bfd_session::{Answer, Event, Session};
+use bfd_session::{Answer, Event};
 use bfd_wheel::Timers;
 use std::sync::ledger::Ledger;
 
@@ -31,28 +32,10 @@ pub(crate) fn keep_due<W: Timers, L: Ledger>(
     }
 }
 
-/// An own event of a session at its effective moment: no earlier than the last tick and the session's last own event.
-fn step_one(last: u64, moment: u64, event: &Event, session: &mut Session, outs: &mut Outs) -> Answer
-    requires last { last ≤ greatest_tick }
-    requires moment { moment < moment_bound }
-    requires takes { CanTake session.old.config event.now }
-    requires room { 5 ≤ outs.old.spare }
-    ensures session { session.new ≡ stepped moment last event.now session.old }
-    ensures items { outs.new.items ≡ outs.old.items ++ (step_outcome moment last event.now session.old).items }
-    ensures answer { result ≡ (step_outcome moment last event.now session.old).answer }
-    ensures sound { IsSound session.new }
-    ensures spare { outs.old.spare ≤ outs.new.spare + 5 }
-    ensures room { outs.new.room ≡ outs.old.room }
-{
-    let at = session.vars().at;
-    let eff = moment.max((1000 * last).max(at));
-    session.step(eff, event, outs)
-}
-
 /// An own event of the session at this place, whose due tick is updated.
 #[tactic(auto, using(crate::proofs::Moves::due_set, crate::proofs::Moves::all_set))]
 pub(crate) fn step_at<W: Timers, L: Ledger>(
-    sessions: &mut Vec<Session>,
+    sessions: &mut Vec<Seat>,
     timers: &mut W,
     last: u64,
     place: u32,
@@ -81,9 +64,9 @@ pub(crate) fn step_at<W: Timers, L: Ledger>(
     ensures room { outs.new.room ≡ outs.old.room }
     ensures cost { steps.new ≤ steps.old + 2 }
 {
-    let session = &mut sessions[place as usize];
-    let answer = step_one(last, moment, event, session, outs);
-    let due = session.due();
+    let seat = &mut sessions[place as usize];
+    let answer = seat.step(last, moment, event, outs);
+    let due = seat.session().due();
     keep_due(timers, place, due, steps);
     answer
 }

@@ -18,6 +18,7 @@ ghost use Rattle.bfd_session.specs.Reaching.{IsTaken, Stands};
 
 use crate::entry::ShardEvent;
 use crate::own::step_at;
+use crate::seat::Seat;
 use crate::start::{sessions_of, share_of, timers_of};
 use crate::ticking::tick_all;
 use bfd_lanes::Ids;
@@ -33,7 +34,7 @@ use std::sync::ledger::Ledger;
 /// session is sound.
 #[derive(Drop)]
 pub struct Sessions<W: Timers> {
-    sessions: Vec<Session>,
+    sessions: Vec<Seat>,
     timers: W,
     last: u64,
     // Room for the places of the sessions that a tick finds due.
@@ -53,7 +54,7 @@ impl<W: Timers> Model for Sessions<W> {
 /// An own event of the session at a place.
 #[tactic(auto, using(bfd_session::proofs::Standing::takes_at, std::proofs::lemmas::Option::slice_get_within), unfolding(crate::specs::History::moved, crate::specs::History::outcome_of))]
 fn act_own<W: Timers, L: Ledger>(
-    sessions: &mut Vec<Session>,
+    sessions: &mut Vec<Seat>,
     timers: &mut W,
     last: u64,
     place: u32,
@@ -92,7 +93,7 @@ fn act_own<W: Timers, L: Ledger>(
 /// An event of the sessions: answers the last tick after it, and the event's answer.
 #[tactic(auto, unfolding(crate::specs::History::moved, crate::specs::History::outcome_of))]
 fn act<W: Timers, L: Ledger>(
-    sessions: &mut Vec<Session>,
+    sessions: &mut Vec<Seat>,
     timers: &mut W,
     last: u64,
     event: &ShardEvent,
@@ -138,28 +139,28 @@ fn act<W: Timers, L: Ledger>(
 }
 
 /// Whether a session stands at the place that accepts the event.
-fn takes_at(sessions: &[Session], place: u32, event: &Event) -> bool
+fn takes_at(sessions: &[Seat], place: u32, event: &Event) -> bool
     ensures { IsTrue result ↔ IsTaken (configs_of sessions.now) place event.now }
 {
     match sessions.get(place as usize) {
-        Some(session) => session.takes(event),
+        Some(seat) => seat.session().takes(event),
         None => false,
     }
 }
 
 /// Puts a session in at a place, where there is room for it.
 #[tactic(auto, using(crate::proofs::Moves::all_in))]
-fn put_in(sessions: &mut Vec<Session>, place: u32, session: Session)
+fn put_in(sessions: &mut Vec<Seat>, place: u32, seat: Seat)
     requires place { place ≤ length sessions.old.items }
     requires room { vec_len sessions.old < vec_capacity sessions.old }
     requires all { AllByRecursion IsSound sessions.old.items }
-    requires one { IsSound session }
+    requires one { IsSound seat }
     ensures items { sessions.new.items
-        ≡ take place sessions.old.items ++ session ∷ drop place sessions.old.items }
+        ≡ take place sessions.old.items ++ seat ∷ drop place sessions.old.items }
     ensures sound { AllByRecursion IsSound sessions.new.items }
     ensures long { length sessions.new.items ≡ length sessions.old.items + 1 }
 {
-    match sessions.insert(place as usize, session) {
+    match sessions.insert(place as usize, seat) {
         Ok(()) => (),
         Err(_) => unreachable!(),
     }
@@ -167,7 +168,7 @@ fn put_in(sessions: &mut Vec<Session>, place: u32, session: Session)
 
 /// Takes the session at a place out.
 #[tactic(auto, using(crate::proofs::Moves::all_out))]
-fn take_out(sessions: &mut Vec<Session>, place: u32)
+fn take_out(sessions: &mut Vec<Seat>, place: u32)
     requires place { place < length sessions.old.items }
     requires all { AllByRecursion IsSound sessions.old.items }
     ensures items { sessions.new.items
@@ -210,7 +211,7 @@ impl<W: Timers> Sessions<W> {
     }
 
     // Sessions that stand at the start, with their timers.
-    fn at_start(alloc: Global, sessions: Vec<Session>) -> Result<Sessions<W>, AllocError>
+    fn at_start(alloc: Global, sessions: Vec<Seat>) -> Result<Sessions<W>, AllocError>
         requires few { length sessions.items ≤ 65536 }
         requires sound { AllByRecursion IsSound sessions.items }
         ensures sessions { IfOk result (λ group. group.sessions ≡ sessions.items) }
@@ -245,10 +246,10 @@ impl<W: Timers> Sessions<W> {
         ensures same { OnErr result (self.new ≡ self.old) }
     {
         let ids = Ids::make(alloc, self.sessions.len() + 1)?;
-        let session = Session::make(config);
+        let seat = Seat::make(alloc, config)?;
         self.sessions.reserve(1)?;
-        self.timers.insert(alloc, place, session.due())?;
-        put_in(&mut self.sessions, place, session);
+        self.timers.insert(alloc, place, seat.session().due())?;
+        put_in(&mut self.sessions, place, seat);
         self.ids = ids;
         Ok(())
     }
@@ -360,7 +361,7 @@ impl<W: Timers> Sessions<W> {
     }
 
     /// The sessions, by place.
-    pub fn sessions(&self) -> &[Session]
+    pub fn sessions(&self) -> &[Seat]
         ensures value { result.now ≡ self.now.sessions }
         ensures few { length self.now.sessions ≤ 65536 }
         ensures sound { AllByRecursion IsSound self.now.sessions }

@@ -9,10 +9,11 @@ ghost use Rattle.bfd_shard.specs.Shard.{IsShard, IsOwn, IsOver, IsExact, CanHapp
 
 use crate::entry::{Entry, Full, ShardEvent};
 use crate::law::expiry_laws;
+use crate::seat::Seat;
 use crate::sessions::Sessions;
 use bfd_num::{Steps, Tick};
 use bfd_rules::Outs;
-use bfd_session::{Answer, Session, SessionConfig};
+use bfd_session::{Answer, SessionConfig};
 use bfd_wheel::Timers;
 use std::alloc::{AllocError, Global};
 use std::marker::Model;
@@ -200,7 +201,7 @@ impl<W: Timers> ShardState<W> {
     }
 
     /// The sessions, by place. Between events a shard is what its journal makes of it.
-    pub fn sessions(&self) -> &[Session]
+    pub fn sessions(&self) -> &[Seat]
         ensures value { result.now ≡ self.now.sessions }
         ensures kept { IsShard self.now }
     {

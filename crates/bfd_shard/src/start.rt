@@ -8,8 +8,9 @@ ghost use Rattle.bfd_shard.specs.Dealing.{share};
 ghost use Rattle.bfd_num.specs.Counting.{IsBlankOf};
 
 use crate::own::keep_due;
+use crate::seat::Seat;
 use bfd_num::Steps;
-use bfd_session::{Session, SessionConfig};
+use bfd_session::SessionConfig;
 use bfd_wheel::Timers;
 use std::alloc::{AllocError, Global};
 use std::marker::Brand;
@@ -19,14 +20,15 @@ use std::sync::ledger::{Blank, Ledger};
 pub(crate) fn sessions_of(
     alloc: Global,
     configs: Vec<SessionConfig>,
-) -> Result<Vec<Session>, AllocError>
+) -> Result<Vec<Seat>, AllocError>
     requires { AreFit configs.items }
     ensures sessions { IfOk result (λ sessions. sessions.items ≡ map started configs.items) }
     ensures sound { IfOk result (λ sessions. AllByRecursion IsSound sessions.items) }
 {
     let mut sessions = Vec::with_capacity(alloc, configs.len())?;
     for config in configs {
-        sessions.push(Session::make(config))?;
+        let seat = Seat::make(alloc, config)?;
+        sessions.push(seat)?;
     }
     Ok(sessions)
 }
@@ -37,7 +39,7 @@ pub(crate) fn share_of(
     configs: &[SessionConfig],
     shards: usize,
     shard: usize,
-) -> Result<Vec<Session>, AllocError>
+) -> Result<Vec<Seat>, AllocError>
     requires within { (shard < shards) × (shards ≤ 64) }
     requires few { length configs.now ≤ 65536 }
     requires fit { AreFit configs.now }
@@ -47,14 +49,15 @@ pub(crate) fn share_of(
     let mut sessions = Vec::with_capacity(alloc, configs.len().div_ceil(shards))?;
     let mut at = shard;
     while at < configs.len() {
-        sessions.push(Session::make(configs[at].copy()))?;
+        let seat = Seat::make(alloc, configs[at].copy())?;
+        sessions.push(seat)?;
         at += shards;
     }
     Ok(sessions)
 }
 
 /// Keeps the due tick of each session, with a counter of its own.
-fn keep_all<W: Timers, L: Ledger>(sessions: &[Session], timers: &mut W, blank: Blank)
+fn keep_all<W: Timers, L: Ledger>(sessions: &[Seat], timers: &mut W, blank: Blank)
     requires few { length sessions.now ≤ 65536 }
     requires long { length (W.dues timers.old) ≡ length sessions.now }
     requires blank { IsBlankOf L.name L.parts blank.name blank.parts }
@@ -62,13 +65,13 @@ fn keep_all<W: Timers, L: Ledger>(sessions: &[Session], timers: &mut W, blank: B
 {
     let mut steps = Steps::<L>::new(blank);
     for place in 0..sessions.len() {
-        let due = sessions[place].due();
+        let due = sessions[place].session().due();
         keep_due(timers, place as u32, due, &mut steps);
     }
 }
 
 /// Timers with the due tick of each session.
-pub(crate) fn timers_of<W: Timers>(alloc: Global, sessions: &[Session]) -> Result<W, AllocError>
+pub(crate) fn timers_of<W: Timers>(alloc: Global, sessions: &[Seat]) -> Result<W, AllocError>
     requires few { length sessions.now ≤ 65536 }
     ensures { IfOk result (λ timers. W.dues timers ≡ map due_tick sessions.now) }
 {

@@ -11,16 +11,17 @@ ghost use Rattle.bfd_session.specs.Step.{IsSound};
 ghost use Rattle.bfd_shard.specs.Shard.{NoneDue};
 
 use crate::own::keep_due;
+use crate::seat::Seat;
 use bfd_lanes::Ids;
 use bfd_num::Steps;
 use bfd_rules::Outs;
-use bfd_session::{Session, tick_laws};
+use bfd_session::tick_laws;
 use bfd_wheel::Timers;
 use std::sync::ledger::Ledger;
 
 /// The part that the session at this place has in the tick `last`; its due tick is updated.
 fn tick_at<W: Timers, L: Ledger>(
-    sessions: &mut Vec<Session>,
+    sessions: &mut Vec<Seat>,
     timers: &mut W,
     last: u64,
     place: u32,
@@ -43,17 +44,15 @@ fn tick_at<W: Timers, L: Ledger>(
     ensures spare { outs.old.spare ≤ outs.new.spare + 5 }
     ensures room { outs.new.room ≡ outs.old.room }
 {
-    let session = &mut sessions[place as usize];
-    let limit = 1000 * last;
-    let eff = limit.max(session.vars().at);
-    session.tick(limit, eff, outs);
-    let due = session.due();
+    let seat = &mut sessions[place as usize];
+    seat.tick(last, outs);
+    let due = seat.session().due();
     keep_due(timers, place, due, steps);
 }
 
 /// The tick `last` of all sessions, by ascending place. Those that aren't due by it would stay as they are.
 pub(crate) fn tick_all<W: Timers, L: Ledger>(
-    sessions: &mut Vec<Session>,
+    sessions: &mut Vec<Seat>,
     timers: &mut W,
     last: u64,
     ids: &mut Ids,

@@ -13,8 +13,8 @@ ghost use Rattle.bfd_num.specs.Counting.{IsBlankOf};
 use crate::change::{Change, WatchFault};
 use bfd_num::Steps;
 use bfd_rules::{Out, Outs};
-use bfd_session::{Session, SessionConfig};
-use bfd_shard::{Entry, Full, ShardEvent, ShardState};
+use bfd_session::SessionConfig;
+use bfd_shard::{Entry, Full, Seat, ShardEvent, ShardState};
 use bfd_wheel::Timers;
 use std::alloc::{AllocError, Global};
 use std::marker::{Brand, Model};
@@ -40,7 +40,7 @@ impl<W: Timers> Model for Watch<W> {
 }
 
 /// How many outputs the event may give, of a shard with so many sessions.
-fn most_outputs(sessions: &[Session], event: &ShardEvent) -> usize
+fn most_outputs(sessions: &[Seat], event: &ShardEvent) -> usize
     requires few { length sessions.now ≤ 65536 }
     ensures { result ≡ room_for sessions.now event.now }
 {
@@ -153,7 +153,7 @@ impl<W: Timers> Watch<W> {
     }
 
     /// The sessions as the entries have left them, by place.
-    pub fn sessions(&self) -> &[Session]
+    pub fn sessions(&self) -> &[Seat]
         ensures { result.now ≡ runs (events_of self.now.entries) self.now.configs }
     {
         self.shard.sessions()

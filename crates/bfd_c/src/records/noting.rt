@@ -7,7 +7,8 @@ ghost use Rattle.bfd_c.specs.Records as keeping;
 use crate::records::kept::{Came, Record, note_answer, note_change, note_sent};
 use bfd_instance::Instance;
 use bfd_rules::Out;
-use bfd_session::{Answer, Session};
+use bfd_session::Answer;
+use bfd_shard::Seat;
 use bfd_wheel::Timers;
 
 /// The moment of an event of the session at a place, after it.
@@ -16,7 +17,7 @@ fn moment_at<W: Timers>(instance: &Instance<W>, place: u32) -> u64
 {
     let tick = 1000 * instance.last().get();
     match instance.sessions().get(place as usize) {
-        Some(session) => tick.max(session.vars().at),
+        Some(seat) => tick.max(seat.session().vars().at),
         None => tick,
     }
 }
@@ -71,13 +72,13 @@ fn note_given<W: Timers>(
 }
 
 /// Whether the session at a place has this discriminator.
-fn stands_at(sessions: &[Session], place: u32, discr: u32) -> bool
+fn stands_at(sessions: &[Seat], place: u32, discr: u32) -> bool
     requires { Ascends (configs_of sessions.now) }
     ensures found { result ≡ true → place_in discr (configs_of sessions.now) ≡ Some place }
     ensures within { result ≡ true → place < length sessions.now }
 {
     match sessions.get(place as usize) {
-        Some(session) => session.discr() == discr,
+        Some(seat) => seat.session().discr() == discr,
         None => false,
     }
 }

@@ -67,7 +67,7 @@ fn discr_of_place<W: Timers>(instance: &Instance<W>, place: Option<u32>) -> u32
         return 0;
     };
     match instance.sessions().get(place as usize) {
-        Some(session) => session.discr(),
+        Some(seat) => seat.session().discr(),
         None => 0,
     }
 }
@@ -196,9 +196,9 @@ impl<W: Timers> Recorded<W> {
     fn look_at_place(&self, place: u32) -> Option<Look>
         ensures { result ≡ look_in (Some place) self.now.world self.now.records }
     {
-        let session = self.instance.sessions().get(place as usize)?;
+        let seat = self.instance.sessions().get(place as usize)?;
         let kept = self.records.get(place as usize)?;
-        Some(seen(session, kept))
+        Some(seen(seat.session(), kept))
     }
 
     /// A look at the session of this discriminator, if there is one. It settles nothing, and what the last event gave stays.

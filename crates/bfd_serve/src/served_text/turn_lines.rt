@@ -4,12 +4,11 @@ ghost use Rattle.bfd_session.specs.Kinds.{configs_of};
 ghost use Rattle.bfd_serve.specs.Served as definition;
 
 use crate::spelling::line_of;
-use bfd_session::Session;
-use bfd_shard::{Entry, ShardEvent};
+use bfd_shard::{Entry, Seat, ShardEvent};
 use std::alloc::{AllocError, Global};
 
 /// The discriminator of the session whose own event this is; 0 for a tick.
-pub(crate) fn discr_in(sessions: &[Session], event: &ShardEvent) -> u32
+pub(crate) fn discr_in(sessions: &[Seat], event: &ShardEvent) -> u32
     ensures { result ≡ definition.discr_in (configs_of sessions.now) event.now }
 {
     match event {
@@ -19,11 +18,11 @@ pub(crate) fn discr_in(sessions: &[Session], event: &ShardEvent) -> u32
 }
 
 /// The discriminator of the session at a place, and 0 where none stands there.
-fn discr_at(sessions: &[Session], place: u32) -> u32
+fn discr_at(sessions: &[Seat], place: u32) -> u32
     ensures { result ≡ definition.discr_at (slice_get (configs_of sessions.now) place) }
 {
     match sessions.get(place as usize) {
-        Some(session) => session.discr(),
+        Some(seat) => seat.session().discr(),
         None => 0,
     }
 }

@@ -37,7 +37,8 @@ untaken ss k event e = (λ h. cc, λ h. none_there (sym h.there ∙ config_at ss
 pub returns-in-Some : goal.returns-in-Some
 returns-in-Some c =
     taken c.args.sessions.now c.args.place c.args.event.now c.takes.result
-    (present c.args.sessions.now c.args.place c.in-Some.ensures.lookup.0 c.in-Some.ensures.lookup.1) c.takes.ensures
+    (present c.args.sessions.now c.args.place c.in-Some.ensures.lookup.0 c.in-Some.ensures.lookup.1)
+    (rw c.session.ensures at c.takes.ensures)
 
 pub returns-in-None : goal.returns-in-None
 returns-in-None c = untaken c.args.sessions.now c.args.place c.args.event.now

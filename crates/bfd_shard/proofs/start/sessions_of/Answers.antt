@@ -9,7 +9,7 @@ loop-config-preserved c =
     record {
       whole = cc (append_assoc c.loop-config.yielded (c.in-Some.config ∷ []) c.next.new.self.rest.items);
       fit = (subst AreFit split c.loop-config.invariant.fit).1;
-      made = start_more c.loop-config.yielded c.loop-config.invariant.made c.make.ensures.session c.in_ok-push.ensures.items;
-      sound = sound_more c.loop-config.sessions.items _ c.make.result c.loop-config.invariant.sound c.make.ensures.sound
+      made = start_more c.loop-config.yielded c.loop-config.invariant.made c.in_ok-seat.ensures.session c.in_ok-push.ensures.items;
+      sound = sound_more c.loop-config.sessions.items _ c.in_ok-seat.seat c.loop-config.invariant.sound c.in_ok-seat.ensures.sound
           c.in_ok-push.ensures.items;
     }

@@ -19,10 +19,10 @@ loop-at-init c = record {
 pub loop-at-preserved : goal.loop-at-preserved
 loop-at-preserved c = let n = c.args.shards in let at = c.loop-at.at in let inside = c.loop-at-test.true in record {
   whole = share_more started n c.args.shard c.args.configs.now at (at + n) c.loop-at.sessions.items c.push.new.self.items
-      c.index-configs-at.result c.make.result (omega (arith, c.requires.within.0)) inside refl c.index-configs-at.is
-      (c.make.ensures.session ∙ ap started c.copy.ensures) c.in_ok-push.ensures.items c.loop-at.invariant.whole;
+      c.index-configs-at.result c.in_ok-seat.seat (omega (arith, c.requires.within.0)) inside refl c.index-configs-at.is
+      (c.in_ok-seat.ensures.session ∙ ap started c.copy.ensures) c.in_ok-push.ensures.items c.loop-at.invariant.whole;
   few = omega (arith, inside);
-  sound = sound_more c.loop-at.sessions.items _ c.make.result c.loop-at.invariant.sound c.make.ensures.sound c.in_ok-push.ensures.items;
+  sound = sound_more c.loop-at.sessions.items _ c.in_ok-seat.seat c.loop-at.invariant.sound c.in_ok-seat.ensures.sound c.in_ok-push.ensures.items;
 }
 
 pub returns-clause-sessions : goal.returns-clause-sessions
