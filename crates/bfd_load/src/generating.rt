@@ -5,7 +5,7 @@ ghost use Rattle.bfd_script.specs.Sound.{IsScript};
 ghost use Rattle.bfd_load.specs.Load as load;
 
 use bfd_num::{Moment, Tick};
-use bfd_packet::{Addr, Arrival, AuthBytes, Control, Payload, Port, SOURCE_PORT, State, write};
+use bfd_packet::{Addr, Arrival, Control, Payload, Port, SOURCE_PORT, State, write_plain};
 use bfd_rules::{Config, Role};
 use bfd_script::Script;
 use bfd_script::line::Line;
@@ -109,7 +109,7 @@ fn arrival(alloc: Global, i: u32, before: u32) -> Result<Arrival, AllocError>
     requires { i ≤ 5000 }
     ensures { IfOk result (λ arrival. arrival ≡ load.arrival i before) }
 {
-    let bytes = write(&control(i, before), &AuthBytes::of(&[]));
+    let bytes = write_plain(&control(i, before));
     Ok(Arrival {
         port: Port::Single,
         iface: 1,

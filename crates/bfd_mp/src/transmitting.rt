@@ -5,7 +5,7 @@ ghost use Rattle.bfd_rules.specs.EventFrame.{course};
 ghost use Rattle.bfd_mp.specs.Transmit as transmit;
 
 use crate::HeadConfig;
-use bfd_packet::{AuthBytes, Control, Datagram, SOURCE_PORT, write};
+use bfd_packet::{Control, Datagram, SOURCE_PORT, write_plain};
 use bfd_rules::{Outs, Vars, sends};
 
 /// The port of control packets over a single hop (RFC 5881 section 4).
@@ -52,7 +52,7 @@ pub fn transmits(config: &HeadConfig, poll: bool, vars: &Vars, outs: &mut Outs)
         dst: config.group,
         dport: CONTROL_PORT,
         ttl: 255,
-        bytes: write(&packet, &AuthBytes::default()),
+        bytes: write_plain(&packet),
     };
     sends(config.discr, datagram, outs);
 }

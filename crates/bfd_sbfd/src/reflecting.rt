@@ -8,7 +8,7 @@ ghost use Rattle.bfd_sbfd.specs.Reflect.{Ascends};
 ghost use Rattle.bfd_sbfd.specs.declared.reflecting.Reflector.{Reflector as ReflectorIn};
 
 use crate::transmitting::SBFD_PORT;
-use bfd_packet::{Arrival, AuthBytes, Control, Datagram, Port, State, Test, read, write};
+use bfd_packet::{Arrival, Control, Datagram, Port, State, Test, read, write_plain};
 
 /// A reflector (RFC 7880 section 5). It keeps nothing of the packets that it answers.
 #[derive(Clone, Copy, Debug, PartialEq, Eq)]
@@ -74,7 +74,7 @@ fn answered(reflector: &Reflector, packet: &Control, arrival: &Arrival) -> Datag
         dst: arrival.src,
         dport: arrival.sport,
         ttl: 255,
-        bytes: write(&answer(reflector, packet), &AuthBytes::default()),
+        bytes: write_plain(&answer(reflector, packet)),
     }
 }
 

@@ -5,7 +5,7 @@ ghost use Rattle.bfd_rules.specs.EventFrame.{course};
 ghost use Rattle.bfd_sbfd.specs.Transmit as transmit;
 
 use crate::SeekConfig;
-use bfd_packet::{AuthBytes, Control, Datagram, SOURCE_PORT, write};
+use bfd_packet::{Control, Datagram, SOURCE_PORT, write_plain};
 use bfd_rules::{Outs, Vars, adv_tx, sends};
 
 /// The reflectors' port (RFC 7881 section 2).
@@ -52,7 +52,7 @@ pub fn transmits(config: &SeekConfig, vars: &Vars, outs: &mut Outs)
         dst: config.remote,
         dport: SBFD_PORT,
         ttl: 255,
-        bytes: write(&packet, &AuthBytes::default()),
+        bytes: write_plain(&packet),
     };
     sends(config.discr, datagram, outs);
 }
