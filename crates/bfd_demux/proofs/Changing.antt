@@ -97,7 +97,7 @@ module _ {K V : Type 0} {cmp : K → K → Ordering} (order : IsTotalOrder cmp) 
       let sides = parted (rises xs key up) in
       record { within = within; below = λ k d low. sides.0 k d (omega arith) low; above = sides.1 }
 
-  -- whether the key is there
+  -- whether the key is present
   pub key_there : (xs : List (K × V)) (key : K) (r : Result ℕ ℕ) (found : Bool)
       → MatchResult r (IsPlaceOf cmp xs key) (IsSlotFor cmp xs key) → found ≡ is_ok r
       → found ≡ list_any (λ (entry : K × V). is_eq (cmp entry.0 key)) xs

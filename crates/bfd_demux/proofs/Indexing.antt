@@ -134,7 +134,7 @@ module _ {rows : List Row} {names : List (Name × Option Port)} {addresses : Lis
   pub few_rows : (n : ℕ) → n ≡ length names → n < 65536 → nat_le 65536 (length rows) ≡ false
   few_rows n is few = let same = names_as_rows in grind (arith, nat_tests)
 
-  -- a name of either sort is there where a row has the discriminator
+  -- a name of either sort is present when a row has the discriminator
   pub discr_known : (discr : ℕ) → (list_any (λ (entry : Name × Option Port). is_eq (name_order.ghosts.cmp entry.0 (Session discr))) names
       || list_any (λ (entry : Name × Option Port). is_eq (name_order.ghosts.cmp entry.0 (Reflector discr))) names)
       ≡ list_any (λ row. discr == row.discr) rows

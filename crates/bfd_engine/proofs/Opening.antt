@@ -27,7 +27,7 @@ module _ (limit : ℕ) where
   parts_more f (p ∷ parts) [] part one m is = absurd m
   parts_more f (p ∷ parts) (x ∷ made) part one m is = (m.0, parts_more f parts made part one m.1 is)
 
-  -- what each part gives is made of it
+  -- what each part gives is built from it
   pub made_each : {V : Type 0} (f : V → List SessionConfig) (parts : List V) (made : List Made) → length made ≡ length parts
       → ((k : ℕ) (v : V) (d : Made) → k < length parts → get_or parts k v ≡ v → IsMade limit (f v) (get_or made k d))
       → AreMade limit (map f parts) made

@@ -1,4 +1,4 @@
--- A shard's sessions after its history, and what it tells of one event more.
+-- A shard's sessions after its history, and what it reports of one more event.
 use Rattle.bfd_replay.proofs.ReportCommon.{◌≡◌, suc, ◌≢◌, ◌⊎◌, inl, inr, ◌<◌, ◌+◌, ◌/◌, ◌%◌, ◌++◌, max, ℕ, List, [], ◌∷◌, length, map}
 use Rattle.bfd_replay.proofs.ReportCommon.{get_or, refl, ap, ◌∙◌, append_assoc, append-nil, arith, Option, None, Some, ext_get_or}
 use Rattle.bfd_replay.proofs.ReportCommon.{cons_option, filter_map, get_or-map, length-map, cases_eq, eq-eqb, ne_eqb, Event, Outcome}

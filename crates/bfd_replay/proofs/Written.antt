@@ -13,7 +13,7 @@ none_taken known text = ([], Appends-nil known, refl)
 pub took_nothing : (known : Option (List ℕ)) (text : List ℕ) → TookFront known known text
 took_nothing known text = (text, none_taken known text)
 
--- a sink that tells nothing may have taken anything
+-- a sink of which nothing is observed may have accepted anything
 pub took_unread : (known : Option (List ℕ)) (text : List ℕ) → known ≡ None → TookUpTo known known text []
 took_unread known text none = (text, subst (λ k. Appends k k text) (sym none) tt, sym (append-nil text))
 

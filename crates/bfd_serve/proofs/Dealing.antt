@@ -28,7 +28,7 @@ own_share {k} {states} d locks same closed inside =
       (closed.each k x.0 x.1).configs,
     ))
 
--- the parts are what the shards were made of
+-- the parts are what the shards were built from
 pub parts_are : {engine : Shards} {shards : ℕ} {configs : List SessionConfig} {parts : List (List SessionConfig)} {states : List Shard}
     → length engine.locks ≡ shards → engine.configs ≡ configs → AreDealt shards shards configs parts → AreClosedShards engine states
     → parts ≡ map (λ state. configs_of state.sessions) states

@@ -14,7 +14,7 @@ until_more_by n (suc i) x h more true is less rec =
 until_more_by n i x h more false is less rec = rw is
     (cc (rec i (subst (λ b. i < length (cond b (x ∷ calls by n h) (calls by n h))) is less)))
 
--- an entry that is there is found at the same place in a longer history
+-- an entry that is present is found at the same place in a longer history
 until_more : (n : ℕ) {i : ℕ} (h more : List Entry) → i < length (calls by n h) → until n i (h ++ more) ≡ until n i h
 until_more n [] more less = absurd (omega arith)
 until_more n {i} (x ∷ h) more less = until_more_by n i x h more (x.caller == n) refl less (λ j l. until_more n h more l)

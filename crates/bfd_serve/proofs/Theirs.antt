@@ -41,7 +41,7 @@ module _ {L : Type 0} (told : L → LinkTold) {own : L} where
       ap (λ x. (told x).number) (sym (get_or-append_seam gone link rest own) ∙ ap (λ xs. get_or xs (length gone) own) all)
       ∙ (theirs.at (suc (length gone)) inside ∙ (e ∙ sym is))
 
-  -- the same links, where the first one tells the same
+  -- the same links, if the same is observed of the first one
   pub theirs_same : {own2 : L} (links back : List L) → told own2 ≡ told own → back ≡ links → AreTheirs told own links
       → AreTheirs told own2 back
   theirs_same {own2} links back told_same same theirs = record { at = at }

@@ -26,7 +26,7 @@ settles_echo_rests : (c : Config) (t eff : ℕ) (f : Flow) → has_come t (echo_
 unfolding settles_echo
 settles_echo_rests c t eff f later = running_rests c t eff (echoing c f.course.vars f.echo) f later
 
--- one that runs exactly where it should goes on
+-- one that runs exactly when it should goes on
 
 goes_on_by : (eff next : ℕ) (should : Bool) (echo : Option Echo) → (IsSome echo ↔ IsTrue should)
     → (if should then Some (goes_on eff next echo) else None) ≡ echo

@@ -1,4 +1,4 @@
--- All ids linked anew, one after another.
+-- All ids relinked, one after another.
 use Rattle.bfd_wheel.proofs.Common.{◌≡◌, ◌≢◌, ℕ, zero, suc, ◌+◌, ◌^◌, ◌<◌, ◌≤◌, List, [], ◌∷◌, length, refl, sym, ap, subst, arith}
 use Rattle.bfd_wheel.proofs.Common.{slice_index, slice_set, never, Node, Links, next_in, prev_in, place, IsWheel}
 use Rattle.bfd_wheel.specs.Wheel.{first_dues}

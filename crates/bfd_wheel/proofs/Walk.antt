@@ -62,7 +62,7 @@ upto_falls rank l m c (suc k) near at less = elim (cases_eq c k) [
 
 -- ---- the walk
 
--- the walk of the list of head stands at cur after i steps: whoever of the list isn't ahead has a due tick above t
+-- the walk of the list of head stands at cur after i steps: every id of the list that isn't ahead has a due tick above t
 pub record IsWalk (n now head t : ℕ) (dues : List ℕ) (nodes : List Node) (cur i : ℕ) : Type 0 where
   pub wheel : IsWheel n now dues nodes
   pub on : IsOn (n + 4097) (due_in dues) cur
