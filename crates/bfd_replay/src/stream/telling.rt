@@ -42,7 +42,7 @@ impl Model for Told {
     ghost view = { λ t. record { text = t.text.items; events = t.events; txs = t.txs; drops = t.drops } };
 }
 
-/// Appends the lines of an event, and writes the text if it is long, which then begins anew.
+/// Appends the lines of an event, and writes the text if it is long; then a new one begins.
 fn write_event<K: Sink>(
     number: u64,
     outs: &Outs,
