@@ -73,7 +73,7 @@ fn demand_renewed(eff: u64, before: &Vars, v: &mut Vars)
     }
 }
 
-/// Renews the variables `v` that a rule made of the variables `before`, at the effective moment `eff`, in
+/// Renews the variables `v` that a rule made from the variables `before`, at the effective moment `eff`, in
 /// microseconds: a changed interval needs a Poll Sequence (sections 6.5 and 6.8.3), the intervals in use follow, and
 /// where Demand mode begins or ends here the poll or the Detection Time restarts (section 6.6).
 #[tactic(auto, unfolding(crate::specs::Renewal::renewed))]
