@@ -1,4 +1,4 @@
--- A row more, or one less: what is wrong with the rows, and the two lists.
+-- One more row, or one less: what is wrong with the rows, and the two lists.
 use Rattle.bfd_demux.proofs.Common.{◌≡◌, ◌<◌, ◌≤◌, ℕ, ◌+◌, ◌-◌, Bool, true, false, cond, not, ◌==◌, ◌&&◌, if◌then◌else◌, nat_lt, List, []}
 use Rattle.bfd_demux.proofs.Common.{◌∷◌, length, get_or, map, refl, sym, ◌∙◌, ap, arith, suc, zero, inl, inr, ◌⊎◌, Option, Some, None}
 use Rattle.bfd_demux.proofs.Common.{position, nat_tests, filter, list_any, position_from, option_map, option_or, is_eq, eq-eqb, eqb-true}
@@ -216,7 +216,7 @@ module _ {same : Row → Row → Bool} (like : IsLikeness same) (rows : List Row
   once : (row : Row) → how_many (same row) rows ≤ 1
   once row = once_after same (same row) (like.joins row) [] rows apart (omega arith)
 
-  -- a row more makes a repeat where it is like one of them
+  -- one more row makes a repeat where it is like one of them
   repeat_added : (place : ℕ) (row : Row) → is_some (first_repeat same (insert rows place row)) ≡ list_any (same row) rows
   repeat_added place row = found_counted (first_repeat same (insert rows place row)) (how_many (same row) rows) none found
       ∙ sym (list_any_counted (same row) rows)

@@ -19,7 +19,7 @@ AreMade limit (part ∷ parts) [] = ⊥
 AreMade limit (part ∷ parts) (one ∷ made) = IsMade limit part one × AreMade limit parts made
 
 module _ (limit : ℕ) where
-  -- one part more is made
+  -- one more part is made
   pub parts_more : {V : Type 0} (f : V → List SessionConfig) (yielded : List V) (made : List Made) (part : V) (one : Made)
       → AreMade limit (map f yielded) made → IsMade limit (f part) one → AreMade limit (map f (yielded ++ part ∷ [])) (made ++ one ∷ [])
   parts_more f [] [] part one m is = (is, tt)

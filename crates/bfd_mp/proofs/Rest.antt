@@ -1,5 +1,5 @@
--- An event by which nothing is due, and which does nothing of its own, leaves sound variables as they are and puts
--- nothing out.
+-- An event by which nothing is due, and which does nothing of its own, leaves sound variables as they are and emits
+-- nothing.
 use Rattle.bfd_mp.proofs.Common.{◌≡◌, ◌&&◌, not, ℕ, Bool, true, false, refl, sym, ap, List, floor_tick, has_come, Out, Vars, may_send}
 use Rattle.bfd_mp.proofs.Common.{Course, course, begins, is_news, is_untold, drawn, redrawn, HeadConfig, TailConfig, deadline, IsHeadSound}
 use Rattle.bfd_mp.proofs.Common.{IsTailSound, Mark}

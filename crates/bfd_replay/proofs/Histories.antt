@@ -83,7 +83,7 @@ queue_events n r number [] = refl
 queue_events n r number (Apart o ∷ hs) = queue_events n r (number + 1) hs
 queue_events n r number (Among e ∷ hs) = cc (queued n number (event_in n r e) (queue n r (number + 1) hs), queue_events n r (number + 1) hs)
 
--- one event more
+-- one more event
 
 queue_by : (o : Option Numbered) {xs : List Numbered} (ys zs : List Numbered) → xs ≡ ys ++ zs → cons_option o xs ≡ cons_option o ys ++ zs
 queue_by None ys zs e = e

@@ -3,7 +3,7 @@
 //! A replay deals a table's sessions out to shards, and the events to the shards that have their sessions. Each shard reports what its
 //! events gave in a [`Part`], as text in pieces: all lines of an own event, or one line for each output of a tick, each piece with the
 //! number of its event and, of a tick, the discriminator that it names. The report takes the least piece of all parts, by event and
-//! then by discriminator, until none is left. A part more has what was reported of events that match no session. `give_all` gives the same
+//! then by discriminator, until none is left. A last part has what was reported of events that match no session. `give_all` gives the same
 //! to a sink as it is gathered, and [`write_all`] writes any text. [`report_by_threads`] cuts the parts at places of the report, without a
 //! copy, and gathers what is between two places in a thread of its own, if one is available; [`write_each`] writes the resulting texts.
 //!

@@ -7,7 +7,7 @@ use Rattle.bfd_shard.proofs.Sharing.{all_share, share_next, share_nothing}
 use Rattle.bfd_serve.proofs.Closings.{there_is}
 
 module _ {A : Type 0} where
-  -- one element more of a share
+  -- one more element of a share
   pub share_more : (n c at next : ℕ) (xs part more : List A) (x : A) → 0 < n → at < length xs → next ≡ at + n → x ≡ get_or xs at x
       → more ≡ part ++ x ∷ []
       → part ++ share n 0 (drop at xs) ≡ share n c xs → more ++ share n 0 (drop next xs) ≡ share n c xs

@@ -101,7 +101,7 @@ sent_stopped rest s = record {
   lost_is = s.lost_is;
 }
 
--- after one output more
+-- after one more output
 pub sent_upto : (outs : List Out) {i : ℕ} (d : Out) {t u v : LinkTold} {a b c : ℕ} → i < length outs
     → HasSent (datagrams (take i outs)) [] t u a b → HasSent (datagrams (slice_index_or outs i d ∷ [])) [] u v b c
     → HasSent (datagrams (take (i + 1) outs)) [] t v a c

@@ -1,4 +1,4 @@
--- A tick by which nothing is due leaves sound variables as they are, and puts nothing out.
+-- A tick by which nothing is due leaves sound variables as they are, and emits nothing.
 use Rattle.bfd_session.proofs.Common.{◌≡◌, ◌*◌, ◌++◌, append-nil, ℕ, Bool, true, false, refl, ap, ◌∙◌, Option, None, Some, IsSome, IsTrue}
 use Rattle.bfd_session.proofs.Common.{◌↔◌, List, [], if◌then◌else◌, leb-false, has_come, sooner, Config, Vars, deadline, seq_deadline, Echo}
 use Rattle.bfd_session.proofs.Common.{SessionConfig, Pair, Running, Flow, due, due_by, tick_of, should_echo, echoing, interval_of, echo_due}

@@ -1,4 +1,4 @@
--- Passes that are made, and taken in one after another.
+-- Passes that are made, and joined one after another.
 use Rattle.std.proofs.Common.{◌≡◌, ◌≢◌, ◌<◌, ◌++◌, ◌∷◌, [], ℕ, true, List, length, map, get_or, refl, ◌∙◌, append_assoc, append-nil}
 use Rattle.std.specs.List.{All}
 use Rattle.std.proofs.lemmas.List.Elements.{All-push, All-nil}
@@ -56,7 +56,7 @@ module _ (engine : Shards) where
   same_has : (n : ℕ) {xs ys : List ℕ} → xs ≡ ys → has n xs ≡ true → has n ys ≡ true
   same_has n same h = rw (← same) h
 
-  -- with all that were left taken in, each that was made was joined
+  -- with all that were left joined, each that was made was joined
   pub all_joined : {k l : Knows} {js : List Job} → HasOpen engine k (map number_of js) → HasJoined engine k l js → EachJoined engine l
   all_joined {k} {js} left a = λ s n h. same_has n
       (cc (a.made s h, left.made s h, numbers_kept s js, map-append (λ p. p.0) (kept_at k s) (map (kept_by s) js), a.kept s h))

@@ -26,7 +26,7 @@ module _ (n all i : ℕ) (due home next prev rank due2 home2 next2 prev2 : ℕ �
   out_stays : {j : ℕ} → j ≢ i → IsOn all due j → IsOn all due2 j
   out_stays {j} ne on = record { below = on.below; there = λ e. on.there (cc (u.due_same j ne)) }
 
-  -- who has i before it is what i has behind it
+  -- the node that has i before it is the one behind i
   out_next_is : {j : ℕ} → IsOn all due2 j → j ≢ prev i → next j ≢ i
   out_next_is {j} on ne = λ e. ne (cc (r.back j (out_was on)))
 

@@ -85,7 +85,7 @@ walk_begins {n} {now} {head} t {dues} {nodes} w far near =
       left = omega (arith, upto-le w.links.rank (w.links.rank (next_in nodes head)) n);
     }
 
--- who isn't the head is an id
+-- what isn't the head is an id
 pub walk_id : {n now head t : ℕ} {dues : List ℕ} {nodes : List Node} {cur i : ℕ} → IsWalk n now head t dues nodes cur i → cur ≢ head
     → cur < n
 walk_id {n} {now} {dues} {cur} w other = elim (cases_lt cur n) [

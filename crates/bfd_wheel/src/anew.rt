@@ -44,7 +44,7 @@ fn link_all(nodes: &mut Vec<Node>, dues: &[u64], now: u64)
     put_all(nodes, dues, now);
 }
 
-/// One id more, with this due tick, if any: `id` and those above it move up by one. Fails only when out of memory, and
+/// One more id, with this due tick, if any: `id` and those above it move up by one. Fails only when out of memory, and
 /// then nothing has changed.
 pub(crate) fn insert_id(
     nodes: &mut Vec<Node>,

@@ -141,7 +141,7 @@ module _ (f : Running → List Change) where
     above_picked n p d q (s ∷ ss) h = above_if d (p q) (f s) (picked n p (next n q) ss) (above_own d (discr_of s.config) (f s) h.0 (own s))
         (above_picked n p d (next n q) ss h.1)
 
-    -- of one shard more
+    -- of one more shard
     more_by : (n r q : ℕ) (s : Running) (ss : List Running) → AllByRecursion (λ c. discr_of s.config < discr_of c) (configs_of ss)
         → merged (picked n (λ j. nat_lt j r) (next n q) ss) (picked n (λ j. j == r) (next n q) ss)
         ≡ picked n (λ j. nat_lt j (suc r)) (next n q) ss

@@ -1,4 +1,4 @@
--- What comes of writing an answer, clause by clause of a run.
+-- The outcome of writing an answer, clause by clause of a run.
 use Rattle.bfdd.proofs.Common.{◌≡◌, ◌≢◌, ◌⊎◌, ℕ, List, [], Option, inl, inr, refl, sym, ◌∙◌, subst, append-nil, Rose, Status, Done, Usage}
 use Rattle.bfdd.proofs.Common.{BadLine, ReadFault, WriteFault, PortFault, LinkFault, TooLarge, JournalFull, Turns, ClockFault, Memory}
 use Rattle.bfdd.proofs.Common.{NoMember, IsDecided, IsWrittenBy, OnBadLine, UnlessWriting, WhereUnwritten, Wanted, complaint_line, Appends}

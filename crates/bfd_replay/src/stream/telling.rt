@@ -115,7 +115,7 @@ impl Told {
         }
     }
 
-    /// One event more, with so many packets that were sent and were dropped. Fails only at 2^64 of them, which it reports as out of memory.
+    /// One more event, with so many packets that were sent and were dropped. Fails only at 2^64 of them, which it reports as out of memory.
     fn count(&mut self, more: (u64, u64)) -> Result<(), AllocError>
         requires few { self.old.events < 200000 }
         ensures text { self.new.text ≡ self.old.text }

@@ -1,4 +1,4 @@
--- One text more is the last.
+-- One more text is the last.
 use Rattle.bfd_replay.proofs.ReportCommon.{[], ◌∷◌, append-nil, flat_map-append}
 use Rattle.bfd_replay.proofs.report.threads.put_behind.Goals as goal
 

@@ -1,4 +1,4 @@
--- The texts are the report, and where memory ran out nothing was taken.
+-- The texts are the report, and if memory ran out the sink accepted nothing.
 use Rattle.bfd_replay.proofs.WorkerCommon.{refl, subst}
 use Rattle.bfd_replay.proofs.Reporting.{cause_as}
 use Rattle.bfd_script.specs.Report.{report}
