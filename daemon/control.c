@@ -62,7 +62,7 @@ static bool flush(struct link *link) {
     return true;
 }
 
-/* Sends a message, at once or when the others have gone. False, and nothing is sent, where there is no room. A connection that has
+/* Sends a message, now or when the others have gone. False, and nothing is sent, if there is no room. A connection that has
  * ended is seen at its next event. */
 static bool put(struct link *link, const struct dp_message *message) {
     if (link->fd < 0 || !has_room(link)) return false;
@@ -73,8 +73,8 @@ static bool put(struct link *link, const struct dp_message *message) {
     return true;
 }
 
-/* A connection of this socket, which may not be connected yet. It begins with a question, behind whose answer all has come that FRR
- * had to add at once. */
+/* A connection of this socket, which may not be connected yet. It begins with a question: when the answer has come, so have all
+ * sessions that FRR had for it at first. */
 static void begin(int fd, bool is_open, uint64_t now) {
     const struct dp_message question = {.type = DP_ECHO_REQUEST, .body.echo.data_plane_time = now};
     struct link *link = links;
@@ -120,7 +120,7 @@ static void carry_out(struct link *link, const struct dp_message *message, uint6
     struct dp_message reply = {.type = DP_ECHO_REPLY, .id = message->id, .body.echo = {now, message->body.echo.control_time}};
     switch (message->type) {
     case DP_ECHO_REQUEST: put(link, &reply); break;
-    case DP_ECHO_REPLY: /* all is there that FRR had for this connection: one that brought nothing isn't needed beside another */
+    case DP_ECHO_REPLY: /* all that FRR had for this connection has come: if that is nothing, it isn't needed alongside another */
         if (!link->has_sessions && listener < 0 && links_in_use > 1) end(link, LOG_INFO, "no session was left for it", now);
         break;
     case DP_ADD_SESSION:

@@ -72,11 +72,11 @@ int endpoint_listen(const struct endpoint *endpoint);
 
 /* loop: sleeping until a descriptor has an event or a moment has come ----------------------------------------------------- */
 
-/* Whose events they are. Those of a kind go to one function, and those of packets first, so that a late awakening takes no session
- * down whose packet is there. */
+/* Whose events they are. Those of a kind go to one function, and those of packets first, so that a late wake-up takes no session
+ * down whose packet has come. */
 enum loop_kind { LOOP_PACKETS, LOOP_TIMER, LOOP_SIGNALS, LOOP_LISTENER, LOOP_LINK, LOOP_VIEW, LOOP_KEY, LOOP_KINDS };
 
-/* Takes an event of the descriptor that was given with this number. */
+/* Handles an event of the descriptor that was given with this number. */
 typedef void loop_act(uint32_t number, uint64_t now);
 
 /* Lets time pass up to now, and returns the moment at which that is to be done next; UINT64_MAX is never. */
@@ -99,7 +99,7 @@ pid_t loop_fork(void);
 
 /* Up to 64 packets are received or sent by a call, and nothing is allocated for them. One socket of each port receives on every
  * interface, and one sends; IPv4 addresses are mapped ones there (RFC 4291 section 2.5.5.2), so the system has to know IPv6, if only
- * that. Beside these there are sockets that are bound to a device: to an interface in a VRF, and over several hops to the VRF, or to the
+ * that. There are also sockets that are bound to a device: to an interface in a VRF, and over several hops to the VRF, or to the
  * interface that a session was given. */
 struct path {
     uint32_t ifindex; /* by which a session sends; 0: none */
@@ -107,11 +107,11 @@ struct path {
     int sender;
 };
 
-/* Takes packets that came to one socket, at most BFDD_MANY, whose `iface` is the system's ifindex; and the device of the socket, 0 for
+/* Receives packets that came to one socket, at most BFDD_MANY, whose `iface` is the system's ifindex; and the device of the socket, 0 for
  * none. It may change them. */
 typedef void packets_taker(bfdd_arrival *arrivals, size_t count, uint32_t device);
 
-/* Opens the sockets that are bound to no device. The loop hands over from now on what comes to any. */
+/* Opens the sockets that are bound to no device. From now on the loop passes on what any of them receives. */
 void sockets_open(packets_taker *take);
 
 /* Finds the sockets of a session with this interface, and opens those for a device. False with errno. */
@@ -128,7 +128,7 @@ void sockets_flush(void);
 
 /* A session is what its own events and the ticks make of it, so the record has its packets, its commands, and the ticks at which
  * it had something due. An engine of the session alone, which is given the record's events, says which ticks these are. A packet
- * file has at most 200,000 events; what comes later isn't recorded. Beside FILE stands FILE.start, with the time of day of moment 0. */
+ * file has at most 200,000 events; what comes later isn't recorded. Alongside FILE stands FILE.start, with the time of day of moment 0. */
 struct record {
     FILE *file; /* NULL: nothing is recorded */
     unsigned events;
@@ -162,16 +162,16 @@ struct session {
     struct path path;
     bool is_open;          /* the engine has it */
     bool is_refused;       /* that it couldn't be opened was said */
-    struct dp_state told;  /* what its owner has, who takes a new session as Down */
-    uint64_t tell_at;      /* when its owner is told again; UINT64_MAX: never */
+    struct dp_state told;  /* what its owner has, which is Down for a new session */
+    uint64_t tell_at;      /* when its owner gets the next report; UINT64_MAX: never */
     uint64_t begun;        /* when it was added */
     uint64_t starts;       /* when its hold time has passed */
     uint64_t ends;         /* when it is removed, unless a connection takes it: UINT64_MAX while it has one */
     uint64_t since;        /* when the own state was last changed, or the session opened */
-    uint64_t heard;        /* when the last packet came that the engine took; 0: none did */
+    uint64_t heard;        /* when the last packet came that the engine accepted; 0: none did */
     struct dp_state state; /* the own state and what the peer last sent */
     uint8_t peer_state;
-    struct dp_counters counters; /* control packets that were taken and sent */
+    struct dp_counters counters; /* control packets that were accepted and sent */
     uint64_t ups, up_for;        /* how often it came Up, and how long it was Up, but for the time since it last came Up */
     struct record record;
 };
@@ -183,7 +183,7 @@ struct session_change {
     const char *line;  /* all but the moment, as "session 7 to 10.0.0.2 on eth0: Init to Up, diagnostic 0 (No Diagnostic): .." */
 };
 
-/* Tells the owner of this session its state, or a value of its peer's that is new: then there is no change, NULL. False where
+/* Reports this session's state to its owner, or a new value of its peer's: then there is no change, NULL. False if
  * the owner has no room for that now; then it is tried again in a second. */
 typedef bool session_teller(const struct session *s, const struct session_change *change);
 
@@ -218,12 +218,12 @@ void view_session(struct line line, const struct session *s, const bfdd_session_
 void view_change(struct line line, const struct session *s, const struct session_change *change);
 void sessions_view(struct line line, uint64_t now);
 
-/* Listens on a unix socket at this path: whoever connects gets a line of JSON for each of the sessions. */
+/* Listens on a unix socket at this path: each client that connects gets a line of JSON for each session. */
 void view_listen(const char *path);
 
 /* control: the connections to FRR's bfdd ------------------------------------------------------------------------------------ */
 
-/* Connects to the endpoint, or listens there. Then it has its round, and tells the sessions' changes. */
+/* Connects to the endpoint, or listens there. Then it has its round, and reports the sessions' changes. */
 void control_open(const struct endpoint *endpoint, bool listens);
 uint64_t control_round(uint64_t now);
 session_teller control_tell;

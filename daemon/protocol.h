@@ -9,7 +9,7 @@
 #include <stddef.h>
 #include <stdint.h>
 
-/* An addition is also the change of a session that is there. */
+/* An addition is also the change of a session that exists. */
 enum dp_type {
     DP_ECHO_REQUEST, DP_ECHO_REPLY, DP_ADD_SESSION, DP_DELETE_SESSION, DP_STATE_CHANGE, DP_REQUEST_COUNTERS, DP_COUNTERS, DP_TYPES
 };

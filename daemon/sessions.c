@@ -83,7 +83,7 @@ static struct session *find_for(const bfdd_arrival *arrival, uint32_t device) {
     return found;
 }
 
-/* Telling -------------------------------------------------------------------------------------------------------------- */
+/* Reporting ------------------------------------------------------------------------------------------------------------ */
 
 const char *session_name(const struct session *s) {
     static char name[NAME];
@@ -93,7 +93,7 @@ const char *session_name(const struct session *s) {
     return name;
 }
 
-/* Tells the owner the state and the peer's values: again in the next second where there was no room, and Up every few seconds, since FRR
+/* Reports the state and the peer's values to the owner: again in the next second if there was no room, and Up every few seconds, since FRR
  * sets a session Down on its own side when one of several users leaves it. */
 static void tell(struct session *s, const struct session_change *change, uint64_t now) {
     bool is_told = teller(s, change), is_up = s->state.state == BFDD_UP;
@@ -130,7 +130,7 @@ static void changed(struct session *s, const bfdd_output *out, const char *words
 
 /* Events --------------------------------------------------------------------------------------------------------------- */
 
-/* An output goes to the session that its discriminator names: who removes a session reads its outputs first. */
+/* An output goes to the session that its discriminator names: a session's outputs are read before it is removed. */
 static void take_output(const bfdd_output *out, const char *words, uint64_t now) {
     struct session *s = sessions_find(out->discr);
     if (out->kind == BFDD_CHANGED) return changed(s, out, words, now);
@@ -170,7 +170,7 @@ static void give_changes(struct session *s, uint64_t now) {
     if (is_shut && !wants_shut) command(s, BFDD_ENABLE, 0, "no longer shut down here", now);
 }
 
-/* Keeps what the owner is told of the peer, from a control packet that the engine has taken (RFC 5880 section 4.1), and counts it. */
+/* Keeps what is reported of the peer to the owner, from a control packet that the engine accepted (RFC 5880 section 4.1); counts it. */
 static void keep_peer(struct session *s, const bfdd_arrival *arrival) {
     const uint8_t *payload = arrival->payload;
     s->counters.packets_in++;
@@ -190,7 +190,7 @@ static void say_dropped(const bfdd_arrival *arrival, const char *cause) {
     if (log_greatest == LOG_DEBUG) say(LOG_DEBUG, "a packet from %s was dropped: %s", address_text(&arrival->packet.src, from), cause);
 }
 
-/* The session that takes a packet, which gets the session's interface and no moment before the engine's last tick. NULL: none does. */
+/* The session that accepts a packet, which gets the session's interface and no moment before the engine's last tick. NULL: none does. */
 static struct session *session_for(bfdd_arrival *arrival, uint32_t device) {
     struct session *s = find_for(arrival, device);
     bfdd_packet *packet = &arrival->packet;
@@ -243,7 +243,7 @@ static void refuse(struct session *s, const char *cause) {
 }
 
 /* Gives the session to the engine. A session's interface is a number of 16 bits there: two whose addresses are the same, and whose
- * interfaces differ by a multiple of 65,536, can't be had at once. */
+ * interfaces differ by a multiple of 65,536, can't exist at the same time. */
 static void add_to_engine(struct session *s, uint64_t now) {
     bfdd_session *config = &s->config;
     char interface[IF_NAMESIZE];
@@ -275,14 +275,14 @@ static void open_session(struct session *s, uint64_t now) {
 }
 
 static void remove_from_engine(struct session *s) {
-    bfdd_remove(&engine, s->wanted.discr); /* if it is there */
+    bfdd_remove(&engine, s->wanted.discr); /* if present */
     s->is_open = false;
     record_end(&s->record);
 }
 
 /* A session ends, and sends AdminDown once. */
 static void end_session(struct session *s, uint64_t now) {
-    s->owner = NO_OWNER; /* FRR has ended it, and is told no more */
+    s->owner = NO_OWNER; /* FRR has ended it, and gets no more reports */
     if (s->is_open) command(s, BFDD_DISABLE, 0, "ended here", now);
     say(LOG_INFO, "%s ends", session_name(s));
 }
@@ -309,7 +309,7 @@ static const char *fault_of(const struct dp_session *wanted) {
     return wanted->mult == 0 ? "Detect Mult is 0" : NULL;
 }
 
-/* Whether both are one session to the peer, so that commands make the one of the other. */
+/* Whether both are one session to the peer, so that commands turn the one into the other. */
 static bool is_same_session(const struct dp_session *a, const struct dp_session *b) {
     const uint32_t kind = DP_MULTIHOP | DP_IPV6;
     return (a->flags & kind) == (b->flags & kind) && a->ifindex == b->ifindex && !memcmp(a->source, b->source, 16)
@@ -376,7 +376,7 @@ void sessions_lost(uint32_t owner, uint64_t now) {
 
 /* Time ----------------------------------------------------------------------------------------------------------------- */
 
-/* What a second may have changed for a session: a route to its peer, its mode, room to tell its owner. */
+/* What a second may have changed for a session: a route to its peer, its mode, room to report to its owner. */
 static void second(struct session *s, uint64_t now) {
     if (s->ends <= now) return close_session(s, now);
     if (s->is_open && s->state.state == BFDD_DOWN && s->config.active != is_active(s)) remove_from_engine(s);
@@ -424,7 +424,7 @@ void sessions_open(session_teller *tell_owner, uint64_t keep_for) {
     sockets_open(receive);
 }
 
-/* All say AdminDown; then the engine is closed at once, since a removal takes time by the number of sessions. */
+/* All say AdminDown; then the engine is closed as a whole, since each removal takes time linear in the sessions. */
 void sessions_close(uint64_t now) {
     for (struct session *s = all; s; s = s->next[ALL]) end_session(s, now);
     bfdd_close(&engine);

@@ -26,7 +26,7 @@ static struct udp_socket {
 static uint32_t count;
 static packets_taker *take_packets;
 
-/* The packets of one call, each with the peer's address, its payload, and what the kernel says or is told beside it. */
+/* The packets of one call, each with the peer's address, its payload, and the kernel's control data. */
 static struct batch {
     struct mmsghdr messages[BFDD_MANY];
     struct sockaddr_in6 peers[BFDD_MANY];
@@ -75,8 +75,8 @@ static bool bind_to_port(int fd, int kind) {
     return false;
 }
 
-/* Opens a socket, or fails with errno. Beside one that is bound to no device the system lets another bind to the same port only
- * where both allow that; they do so no longer than this takes, so that a second BFD daemon finds the port in use. */
+/* Opens a socket, or fails with errno. Alongside one that is bound to no device the system lets another bind to the same port only
+ * if both allow that; they do so no longer than this takes, so that a second BFD daemon finds the port in use. */
 static int open_one(int kind, uint32_t device) {
     int fd = socket(AF_INET6, SOCK_DGRAM | SOCK_NONBLOCK | SOCK_CLOEXEC, 0);
     if (fd < 0) return -1;
@@ -93,7 +93,7 @@ static int open_one(int kind, uint32_t device) {
 
 static void receive(uint32_t number, uint64_t now);
 
-/* The socket of this kind and device, which is opened where it isn't there. NULL with errno. */
+/* The socket of this kind and device, which is opened if it isn't yet. NULL with errno. */
 static struct udp_socket *socket_of(int kind, uint32_t device) {
     struct udp_socket *it = all;
     while (it < all + count && (it->kind != kind || it->device != device)) it++;
@@ -203,7 +203,7 @@ static bfdd_arrival arrival_of(const struct udp_socket *it, int i, uint64_t now,
     return (bfdd_arrival){packet, incoming.payloads[i], incoming.messages[i].msg_len};
 }
 
-/* Hands over the packets that have come to this socket. */
+/* Passes on the packets that have come to this socket. */
 static void receive(uint32_t number, uint64_t now) {
     static bfdd_arrival arrivals[BFDD_MANY];
     struct udp_socket *it = &all[number];

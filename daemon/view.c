@@ -94,8 +94,8 @@ enum { LONGEST_ANSWER = 10 /* seconds */ };
 
 static int listener;
 
-/* Answers whoever connects in a child, so that a slow reader delays nothing. The child has the program's sockets too, so it ends soon even
- * where nobody reads. */
+/* Answers each client in a child, so that a slow reader delays nothing. The child has the program's sockets too, so it ends soon even
+ * if nobody reads. */
 static void answer(uint32_t number UNUSED, uint64_t now) {
     int asker = accept4(listener, NULL, NULL, SOCK_CLOEXEC);
     pid_t child = asker >= 0 ? loop_fork() : -1;

@@ -327,7 +327,7 @@ uint32_t bfdd_next(bfdd_handle *handle, bfdd_output *output);
  * does what is due. It changes with each event. BFDD_CLOSED; BFDD_END where none is needed before the next event. */
 uint32_t bfdd_due(bfdd_handle *handle, uint64_t *ms);
 
-/* Many at once ------------------------------------------------------------------------------------------------------------ */
+/* Many in one call -------------------------------------------------------------------------------------------------------- */
 
 /* One of many packets that came in, as by recvmmsg. It has no size but that of its packet: a payload is all that comes with one. */
 typedef struct {

@@ -9,8 +9,8 @@
  *
  * What the engine leaves to a daemon (docs/EMBEDDING.md): each session sends from a port of its own. Packets over several hops whose
  * TTL is below LEAST_TTL are discarded. A line `DISCR VERB VALUE` of standard input is a command, which waits until the Poll Sequence
- * of the one before has ended. `DISCR add IFACE REMOTE` adds a session over a single hop, and `DISCR remove` takes one away. By SIGHUP
- * the table is read anew, with other keys say, after each session has said AdminDown. */
+ * of the one before has ended. `DISCR add IFACE REMOTE` adds a session over a single hop, and `DISCR remove` removes one. On SIGHUP
+ * the table is read again, with other keys say, after each session has said AdminDown. */
 #define _GNU_SOURCE
 #include <arpa/inet.h>
 #include <bfdd.h>
@@ -139,7 +139,7 @@ static void take_outputs(bfdd_handle *engine, uint64_t moment) {
     }
 }
 
-/* Whether a packet came; its TTL, its interface and its own address stand in what the kernel tells beside it. */
+/* Whether a packet came; its TTL, its interface and its own address are in the kernel's control data. */
 static bool hear(nfds_t place, bfdd_packet *packet, uint8_t *payload, size_t *length) {
     struct sockaddr_in from = {0};
     struct iovec part = {payload, *length};
@@ -203,7 +203,7 @@ static uint32_t add_session(bfdd_handle *engine) {
     return bfdd_add(engine, &session);
 }
 
-/* A session less. Its peer is told AdminDown before. */
+/* Removes a session, which sends AdminDown to its peer first. */
 static uint32_t remove_session(bfdd_handle *engine, uint64_t moment) {
     bfdd_command(engine, moment, command.discr, BFDD_DISABLE, 0);
     take_outputs(engine, moment);
@@ -226,7 +226,7 @@ static void give_command(bfdd_handle *engine) {
     command.verb = 0;
 }
 
-/* Opens the engine by the table as it is now. A peer that is told AdminDown takes what follows for no failure of the path (RFC 5882
+/* Opens the engine by the table as it is now. A peer that has received AdminDown sees no failure of the path in what follows (RFC 5882
  * section 3.2). A faulty table changes nothing. */
 static void open_anew(bfdd_handle *engine, const char *path) {
     bfdd_handle next = BFDD_HANDLE_INIT;

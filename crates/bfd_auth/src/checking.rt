@@ -26,7 +26,7 @@ pub fn verify(keys: &Keys, seq: &SeqState, raw: &[u8]) -> Result<SeqState, Test>
     }
 }
 
-// The first test that the packet fails. Where it fails none, its section is there.
+// The first test that the packet fails. If it fails none, its section is present.
 fn first_failing(keys: &Keys, seq: &SeqState, raw: &[u8]) -> Option<Test>
     ensures value { result ≡ find (λ test. section_fails keys.now seq.now raw.now test) section_tests }
     ensures whole { IfNone result (is_password keys.now.kind ≡ false → 32 ≤ length raw.now) }

@@ -1,4 +1,4 @@
--- Out of memory is told only where no fault is.
+-- Out of memory is reported only when there is no fault.
 use Rattle.bfd_c.proofs.Common.{◌≡◌, Bool, None, Option, Some, false, refl, true}
 use Rattle.std.proofs.Common.{List, arith, if◌then◌else◌, inl, inr, length, nat_le, ◌⊎◌}
 use Rattle.std.specs.Prelude.{◌==◌}

@@ -1,4 +1,4 @@
--- What comes of many packets where the first was handled; and places for outputs that are none.
+-- The outcome of many packets if the first was handled; and places for outputs that are none.
 use Rattle.std.proofs.Common.{◌≡◌, ℕ, List, [], ◌∷◌, length, ap, arith, subst, sym, ◌∙◌}
 use Rattle.std.specs.Prelude.{true, false, Option, None, Some, is_some, option_copied}
 use Rattle.std.specs.Borrow.{Bor}
@@ -40,7 +40,7 @@ stopped (Some line) place answered places e after first behind h w f k =
     (ap (λ (x : Answered). one_before x (none_handed 0 places after)) w
     ∙ stopped_behind after.left first (answer_for_c after.discr after.answer) places after behind f k)
 
--- it left none, and this came of the others
+-- it left none, and this is the outcome of the others
 pub went_on : (line : Option Line) (place answered : Answered) (places : List Answered) (e after : Instance) (first : Option (Bor Out))
     (rest : Instance → Handed) (behind : Handed)
     → (after, 0) ≡ asked line e → answered ≡ answer_for_c after.discr after.answer → option_copied first ≡ first_of after.left

@@ -152,7 +152,7 @@ impl Engine {
         }
     }
 
-    /// One session more.
+    /// One more session.
     pub(crate) fn add(&mut self, alloc: Global, config: SessionConfig) -> u32
         requires { IsFit config }
         ensures done { result ≢ 2 → (self.new, result) ≡ joining.session_added (Some config) self.old }
@@ -175,7 +175,7 @@ impl Engine {
         NOT_FOUND
     }
 
-    /// One reflector more.
+    /// One more reflector.
     pub(crate) fn add_reflector(&mut self, reflector: Reflector) -> u32
         ensures done { result ≢ 2 → (self.new, result) ≡ joining.reflector_added (Some reflector) self.old }
         ensures memory { result ≡ 2 → (joining.reflector_added (Some reflector) self.old).1 ≡ 0 }

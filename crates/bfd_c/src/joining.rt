@@ -11,7 +11,7 @@ use crate::sizes;
 use bfd_sbfd::Reflector;
 use std::alloc::Global;
 
-/// One session more for an open engine.
+/// One more session for an open engine.
 fn join(alloc: Global, engine: &mut Engine, fields: &Fields) -> u32
     ensures done { result ≢ 2 → (engine.new, result) ≡ fields_added fields.now engine.old }
     ensures kept { result ≡ 2 → engine.new ≡ engine.old }
@@ -26,7 +26,7 @@ fn join(alloc: Global, engine: &mut Engine, fields: &Fields) -> u32
     }
 }
 
-/// One session more, which starts at the last tick. Nothing else changes: outputs that weren't read and the answer stay.
+/// One more session, which starts at the last tick. Nothing else changes: outputs that weren't read and the answer stay.
 ///
 /// 1 comes if and only if the handle is closed; 11 iff it's open and the struct's size isn't known; 3 iff neither comes
 /// and a value that the kind uses is outside its range; 9, 7 and 8 iff none of these comes and, in this order, there are 65,536
@@ -84,7 +84,7 @@ fn reflector(discr: u32, rx: u32, up: u32) -> Option<Reflector>
     }
 }
 
-/// One reflector more for an open engine.
+/// One more reflector for an open engine.
 fn join_reflector(engine: &mut Engine, reflector: Option<Reflector>) -> u32
     ensures done { result ≢ 2 → (engine.new, result) ≡ reflector_added reflector engine.old }
     ensures kept { result ≡ 2 → engine.new ≡ engine.old }
@@ -96,7 +96,7 @@ fn join_reflector(engine: &mut Engine, reflector: Option<Reflector>) -> u32
     }
 }
 
-/// One reflector more, of this discriminator and Required Min RX Interval in microseconds, which is Up where `up` is 1 and
+/// One more reflector, of this discriminator and Required Min RX Interval in microseconds, which is Up where `up` is 1 and
 /// AdminDown where it is 0. Nothing else changes.
 ///
 /// 1 comes if and only if the handle is closed; 3 iff it's open and the discriminator is 0, the interval outside 10,000 to

@@ -95,7 +95,7 @@ addr_level (V4 a) (V4 b) = nat_level a b
 addr_level (V6 a) (V6 b) = nat_level a b
 addr_level a b = refl
 
--- two kinds of which one has addresses compare Equal where a packet can't tell them apart
+-- two kinds of which one has addresses compare Equal when a packet doesn't distinguish them
 pub selector_level : (a b : RowKind) → has_addresses a ≡ true → is_eq (kinds.ghosts.cmp a b) ≡ same_selector a b
 selector_level (Single i l r) (Single i' l' r') h =
     then_level _ _ (nat_level i i') (then_level _ _ (addr_level l l') (addr_level r r'))
@@ -117,7 +117,7 @@ same_addr_is (V4 a) (V4 b) e = ap V4 (grind (arith, nat_tests))
 same_addr_is (V6 a) (V6 b) e = ap V6 (grind (arith, nat_tests))
 same_addr_is a b e = cc
 
--- kinds that a packet can't tell apart are equal
+-- kinds that a packet doesn't distinguish are equal
 pub same_selector_is : (a b : RowKind) → same_selector a b ≡ true → a ≡ b
 same_selector_is (Single i l r) (Single i' l' r') e =
     let outer = and_parts ((i == i') && same_addr l l') (same_addr r r') e in
@@ -133,7 +133,7 @@ same_selector_is (Tail d i g s) (Tail d' i' g' s') e =
     cc (eqb-true d d' first.0, eqb-true i i' first.1, same_addr_is g g' inner.1, same_addr_is s s' outer.1)
 same_selector_is a b e = cc
 
--- a kind without addresses is told from all others
+-- a kind without addresses differs from all others
 pub unaddressed : (a b : RowKind) → has_addresses a ≡ false → same_selector a b ≡ false
 unaddressed Seek b h = refl
 unaddressed Reflect b h = refl

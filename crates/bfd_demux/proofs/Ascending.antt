@@ -87,7 +87,7 @@ pub none_passes : {X : Type 0} (test : X → Bool) (xs : List X) → ((k : ℕ) 
 none_passes test [] none = refl
 none_passes test (x ∷ xs) none = rw (none zero x (omega arith)) (none_passes test xs (λ k d lt. none (suc k) d (omega arith)))
 
--- a search over half as many, after one step more
+-- a search over half as many, after one more step
 pub halves : (t : ℕ) {size : ℕ} (half : ℕ) {n : ℕ} → 2 ^ t * size ≤ n → half + half ≤ size → 2 ^ (t + 1) * half ≤ n
 halves t half all twice =
     let doubled : 2 ^ (t + 1) * half ≡ 2 ^ t * (half + half) = rw pow-add (omega arith) in
@@ -148,7 +148,7 @@ module _ {K V : Type 0} {cmp : K → K → Ordering} (order : IsTotalOrder cmp) 
       (λ level. let twice = two_pass (λ entry. is_eq (cmp entry.0 (get_or xs j d).0)) xs i j d lt within (cc)
       (ap is_eq (tied_itself order _)) in omega (arith, once (get_or xs j d).0))
 
-  -- one entry more, above the one before it
+  -- one more entry, above the one before it
   pub one_longer : (xs : List (K × V)) {p : ℕ} {x y : K × V} → 0 < p → p < length xs → ((d : K × V) → x ≡ get_or xs (p - 1) d)
       → ((d : K × V) → y ≡ get_or xs p d) → is_lt (cmp x.0 y.0) ≡ true →
       ((i j : ℕ) (d : K × V) → i < j → j < p → cmp (get_or xs i d).0 (get_or xs j d).0 ≡ Less) →

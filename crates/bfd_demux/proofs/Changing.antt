@@ -1,4 +1,4 @@
--- A row more, or one less: what is wrong with the rows, and the two lists.
+-- One more row, or one less: what is wrong with the rows, and the two lists.
 use Rattle.bfd_demux.proofs.Common.{◌≡◌, ◌<◌, ◌≤◌, ℕ, ◌+◌, ◌-◌, Bool, true, false, cond, not, ◌==◌, ◌&&◌, if◌then◌else◌, nat_lt, List, []}
 use Rattle.bfd_demux.proofs.Common.{◌∷◌, length, get_or, map, refl, sym, ◌∙◌, ap, arith, suc, zero, inl, inr, ◌⊎◌, Option, Some, None}
 use Rattle.bfd_demux.proofs.Common.{position, nat_tests, filter, list_any, position_from, option_map, option_or, is_eq, eq-eqb, eqb-true}
@@ -97,7 +97,7 @@ module _ {K V : Type 0} {cmp : K → K → Ordering} (order : IsTotalOrder cmp) 
       let sides = parted (rises xs key up) in
       record { within = within; below = λ k d low. sides.0 k d (omega arith) low; above = sides.1 }
 
-  -- whether the key is there
+  -- whether the key is present
   pub key_there : (xs : List (K × V)) (key : K) (r : Result ℕ ℕ) (found : Bool)
       → MatchResult r (IsPlaceOf cmp xs key) (IsSlotFor cmp xs key) → found ≡ is_ok r
       → found ≡ list_any (λ (entry : K × V). is_eq (cmp entry.0 key)) xs
@@ -216,7 +216,7 @@ module _ {same : Row → Row → Bool} (like : IsLikeness same) (rows : List Row
   once : (row : Row) → how_many (same row) rows ≤ 1
   once row = once_after same (same row) (like.joins row) [] rows apart (omega arith)
 
-  -- a row more makes a repeat where it is like one of them
+  -- one more row makes a repeat where it is like one of them
   repeat_added : (place : ℕ) (row : Row) → is_some (first_repeat same (insert rows place row)) ≡ list_any (same row) rows
   repeat_added place row = found_counted (first_repeat same (insert rows place row)) (how_many (same row) rows) none found
       ∙ sym (list_any_counted (same row) rows)

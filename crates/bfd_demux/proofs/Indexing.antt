@@ -1,4 +1,4 @@
--- What the two lists say of a row to come, and the index with a row more or one less.
+-- What the two lists say of a row to come, and the index with one more row or one less.
 use Rattle.bfd_demux.proofs.Common.{◌≡◌, ◌<◌, ◌≤◌, ℕ, ◌+◌, Bool, true, false, cond, not, ◌==◌, ◌&&◌, ◌||◌, if◌then◌else◌, List, [], ◌∷◌}
 use Rattle.bfd_demux.proofs.Common.{◌++◌, length, length-map, get_or, refl, sym, subst, ◌∙◌, ap, arith, Option, Some, None, filter}
 use Rattle.bfd_demux.proofs.Common.{and_parts}
@@ -105,7 +105,7 @@ pub unaddressed_rows : (kind : RowKind) (rows : List Row) → has_addresses kind
     → list_any (λ row. same_selector kind row.kind) rows ≡ false
 unaddressed_rows kind rows without = list_any_never (λ row. same_selector kind row.kind) rows (λ row. unaddressed kind row.kind without)
 
--- ---- the addresses with a row more
+-- ---- the addresses with one more row
 
 addresses_added : (rows : List Row) (place : ℕ) (row : Row) (ys more : List (RowKind × ℕ)) → HasSame (addresses_of rows) ys
     → HasSame (addresses_of (row ∷ []) ++ ys) more
@@ -134,7 +134,7 @@ module _ {rows : List Row} {names : List (Name × Option Port)} {addresses : Lis
   pub few_rows : (n : ℕ) → n ≡ length names → n < 65536 → nat_le 65536 (length rows) ≡ false
   few_rows n is few = let same = names_as_rows in grind (arith, nat_tests)
 
-  -- a name of either sort is there where a row has the discriminator
+  -- a name of either sort is present when a row has the discriminator
   pub discr_known : (discr : ℕ) → (list_any (λ (entry : Name × Option Port). is_eq (name_order.ghosts.cmp entry.0 (Session discr))) names
       || list_any (λ (entry : Name × Option Port). is_eq (name_order.ghosts.cmp entry.0 (Reflector discr))) names)
       ≡ list_any (λ row. discr == row.discr) rows
@@ -159,7 +159,7 @@ module _ {rows : List Row} {names : List (Name × Option Port)} {addresses : Lis
       is ∙ ap (λ b. b || list_any (λ (entry : Name × Option Port). is_eq (name_order.ghosts.cmp entry.0 (Reflector discr))) names) none
       ∙ discr_known discr
 
-  -- the addresses are there where a row has them
+  -- the addresses are present when a row has them
   pub addresses_known : (kind : RowKind) → has_addresses kind ≡ true
       → list_any (λ (entry : RowKind × ℕ). is_eq (kind_order.ghosts.cmp entry.0 kind)) addresses
       ≡ list_any (λ row. same_selector kind row.kind) rows

@@ -328,7 +328,7 @@ module _ {rows : List Row} {names : List (Name × Option Port)} {addresses : Lis
 
   -- ---- the addresses of rows
 
-  -- among the rows with addresses, those of the kind are those that a packet of the kind can't tell apart
+  -- among the rows with addresses, those of the kind are those that a packet of the kind doesn't distinguish
   pub address_test : (kind : RowKind) → has_addresses kind ≡ true → (row : Row)
       → (has_addresses row.kind && is_eq (kind_order.ghosts.cmp row.kind kind)) ≡ same_selector kind row.kind
   address_test kind with_addresses row = go (has_addresses row.kind) refl

@@ -21,7 +21,7 @@ pub fn repeated_discr(alloc: Global, rows: &[Row]) -> Result<Option<(usize, usiz
     search_discrs(alloc, rows)
 }
 
-// The discriminators of rows, with nothing beside them.
+// The discriminators of rows, as keys without values.
 fn discrs_of(alloc: Global, rows: &[Row]) -> Result<Vec<(u32, ())>, AllocError>
     ensures { IfOk result (λ discrs. discrs.items ≡ discrs_of rows.now) }
 {

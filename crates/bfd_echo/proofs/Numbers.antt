@@ -15,7 +15,7 @@ kth e k small few = rw (steps_to-on small few) refl
 pub unsent : (e : Echo) → is_outstanding e e.next ≡ false
 unsent e = grind (arith, nat_tests)
 
--- one number more is one step more, but for the whole round
+-- one more number is one more step, but for the whole round
 steps_to-after : {from to : ℕ} → from < 2 ^ 32 → to < 2 ^ 32 → steps_to from to + 1 < 2 ^ 32
     → steps_to from (next_sequence to) ≡ steps_to from to + 1
 steps_to-after small few room = omega arith

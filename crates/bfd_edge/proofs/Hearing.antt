@@ -1,4 +1,4 @@
--- One answer more of a list of them.
+-- One more answer of a list of them.
 use Rattle.std.proofs.Common.{◌≡◌, ℕ, zero, suc, ◌+◌, List, [], ◌∷◌, ◌++◌, take, drop, Some, None, refl, sym, append_assoc, append-nil}
 use Rattle.std.proofs.Common.{arith}
 use Rattle.std.specs.Prelude.{slice_get}
@@ -64,7 +64,7 @@ heard_all items at received.Memory there =
     let first : IsPacket (slice_get (drop at items) 0) = rw first_left there in
     rw here (sym (append-nil (packets_in (take at items))), (first, refl))
 
--- a link tells one answer more
+-- one more answer is observed of a link
 pub told_more : {packets more : List (ℕ × Arrival)} {sent : List Datagram} {counts : LinkCounts} {number : ℕ} (answer : Received)
     → more ≡ packets ++ packets_of answer → {now : LinkTold}
     → now ≡ record { number = number; traffic = Some (record { received = packets; sent = sent }); counts = counts }

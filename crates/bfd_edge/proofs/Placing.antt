@@ -23,7 +23,7 @@ grown_at [] (suc n) = refl
 grown_at (place ∷ places) zero = refl
 grown_at (place ∷ places) (suc n) = grown_at places n
 
--- one place more, at which nothing was opened
+-- one more place, at which nothing was opened
 pub grown : {T : Type 0} → (places : List (Place T)) → place_in (places ++ Waiting ∷ []) ≡ place_in places
 grown places = λ r n. grown_at places n r
 

@@ -15,7 +15,7 @@ gives_each g f (j ∷ jobs) (x ∷ given) zip (suc i) d h =
     let k = (gives_each g f jobs given zip.1 i d (omega (arith, h))).1 in
     (refl, record { job = k.job; job_read = k.job_read; job_is = k.job_is; call = k.call })
 
--- a call more
+-- one more call
 pub zip_more : {A B : Type 0} (R : A → B → Type 0) (xs : List A) (ys : List B) {x : A} {y : B} → AllZip R xs ys → R x y
     → AllZip R (xs ++ x ∷ []) (ys ++ y ∷ [])
 zip_more R [] [] zip r = (r, tt)

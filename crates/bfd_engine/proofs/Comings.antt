@@ -1,4 +1,4 @@
--- What an arrival comes to, as a call.
+-- What an arrival resolves to, as a call.
 use Rattle.bfd_engine.proofs.Common.{◌≡◌, ◌++◌, ℕ, List, [], ◌∷◌, Result, Ok, Err, refl, sym, subst, append-nil, Arrival, Datagram, Test}
 use Rattle.bfd_engine.proofs.Common.{Out, Answer, Event, EngineFault, Shards, Knows, IsDone, coming_act, reflect_act, arrival_judged}
 use Rattle.bfd_engine.proofs.Common.{comes_to, table_of, IsTaken}
@@ -17,11 +17,11 @@ use Rattle.bfd_engine.specs.Calls.{Act, Rests, own_act}
 abbrev pub destination : Shards → Arrival → Destination
 destination engine arrival = comes_to (table_of engine.configs engine.pool) arrival
 
--- .. and what it comes to
+-- .. and what it resolves to
 abbrev pub Comes : Arrival → Coming → Shards → Type 0
 Comes arrival x engine = IsComing engine.configs engine.pool arrival (destination engine arrival) x
 
--- an own event of a session, which takes it
+-- an own event of a session, which accepts it
 pub own_event : (engine : Shards) (arrival : Arrival) (d : Destination) (place : ℕ) (event : Event)
     → IsComing engine.configs engine.pool arrival d (coming.Own place event)
     → (d ≡ OwnEvent place event) × IsTaken engine.configs place event

@@ -31,7 +31,7 @@ has_read k shard {p} q here is num same looked = record {
   turned = turned k shard q looked.between [] here is num same (cc (append-nil (p.1.seen ++ looked.between))) looked.others;
 }
 
--- why it wasn't read, told of the shard
+-- why it wasn't read, stated of the shard
 pub unread_at : {X : Type 0} (r : Result X TurnFault) (shard : ℕ) (l : Knows) (q : OfShard) → met_word l shard ≡ q.word
     → IfErr r (λ fault. IsHistoryUnread fault q)
     → IfErr r (λ fault. IsUnreadAt (fault_of shard fault) shard l)

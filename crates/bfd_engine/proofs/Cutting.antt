@@ -29,7 +29,7 @@ cut_same b2 e f h cut = record {
   fresh = cut.fresh;
 }
 
--- one shard more is cut
+-- one more shard is cut
 pub cut_more : (number at : ℕ) (before now after new more : List Held) (one : K) → AreCut number at before now new
     → CutsAt number at now after one
     → more ≡ new ++ Some one ∷ [] → AreCut number (at + 1) before after more

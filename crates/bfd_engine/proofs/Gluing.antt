@@ -54,7 +54,7 @@ glued_same e f h g = record {
   own = g.own;
 }
 
--- one shard more is joined
+-- one more shard is joined
 pub glue_more : (number at : ℕ) (before theirs now left after rest : List Held) → AreGlued number at before theirs now left
     → GluesAt number at now left after rest
     → AreGlued number (at + 1) before theirs after rest

@@ -59,7 +59,7 @@ pub was_spent : (k : Knows) {l : Knows} (shard : ℕ) {word : ℕ} {p : K} (q : 
     → q.1 ≡ having_met word q.1.looks p.1 → WasSpent p.1 word → IsKept (Spent word) shard k l
 was_spent k shard {p} q here is met spent = (has_met k shard q here is met, (p, here, spent))
 
--- what a refusal tells, of the fault that it is
+-- what a refusal says, given its fault
 pub busy_is : (id : TableId) (v : OfShard) {f : TryFault Entry Base} {pass : K} {read found : ℕ} → f ≡ TryBusy pass read found
     → IsRefused id v f
     → IsBack id v found pass × WasBusy v read found

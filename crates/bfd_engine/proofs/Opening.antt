@@ -19,7 +19,7 @@ AreMade limit (part ∷ parts) [] = ⊥
 AreMade limit (part ∷ parts) (one ∷ made) = IsMade limit part one × AreMade limit parts made
 
 module _ (limit : ℕ) where
-  -- one part more is made
+  -- one more part is made
   pub parts_more : {V : Type 0} (f : V → List SessionConfig) (yielded : List V) (made : List Made) (part : V) (one : Made)
       → AreMade limit (map f yielded) made → IsMade limit (f part) one → AreMade limit (map f (yielded ++ part ∷ [])) (made ++ one ∷ [])
   parts_more f [] [] part one m is = (is, tt)
@@ -27,7 +27,7 @@ module _ (limit : ℕ) where
   parts_more f (p ∷ parts) [] part one m is = absurd m
   parts_more f (p ∷ parts) (x ∷ made) part one m is = (m.0, parts_more f parts made part one m.1 is)
 
-  -- what each part gives is made of it
+  -- what each part gives is built from it
   pub made_each : {V : Type 0} (f : V → List SessionConfig) (parts : List V) (made : List Made) → length made ≡ length parts
       → ((k : ℕ) (v : V) (d : Made) → k < length parts → get_or parts k v ≡ v → IsMade limit (f v) (get_or made k d))
       → AreMade limit (map f parts) made

@@ -37,14 +37,14 @@ part_at [] r cs h new = absurd (omega (arith, h))
 part_at (s ∷ states) zero cs h new = ap Some (made_of cs s (new s).sessions)
 part_at (s ∷ states) (suc r) cs h new = part_at states r cs (omega (arith, h)) new
 
--- where each number of a list is its place, so it is with one number more
+-- where each number of a list is its place, so it is with one more number
 pub number_more : (numbers : List ℕ) (n : ℕ) → length numbers ≡ n → ((k d : ℕ) → k < n → get_or numbers k d ≡ k) → (k d : ℕ) → k < n + 1
     → get_or (numbers ++ n ∷ []) k d ≡ k
 number_more numbers n long each k d h = dite (ℕ_discrete k n)
     (λ same. rw (same, get_or_push numbers n d n long) refl)
     (λ other. rw (get_or_append_left numbers (n ∷ []) d k (omega (arith, long, h, other))) (each k d (omega (arith, h, other))))
 
--- one shard more is made
+-- one more shard is made
 pub new_more : (n : ℕ) (configs : List SessionConfig) (states : List Shard) (state : Shard) (k : ℕ) → length states ≡ k
     → ((r : ℕ) (d : Shard) → r < k → IsNewState (share n r configs) (get_or states r d)) → IsNewState (share n k configs) state
     → (r : ℕ) (d : Shard) → r < k + 1 → IsNewState (share n r configs) (get_or (states ++ state ∷ []) r d)

@@ -1,4 +1,4 @@
--- The answer to an arrival tells the first test that it fails.
+-- The answer to an arrival names the first test that it fails.
 use Rattle.bfd_engine.proofs.Common.{◌≡◌, ◌<◌, ◌+◌, ◌++◌, ◌∷◌, [], ℕ, zero, suc, List, length, Option, None, Some, Result, Ok, Err, IfOk}
 use Rattle.bfd_engine.proofs.Common.{refl, slice_get, option_or, Arrival, Test, Row, Out, Target, Session, Echo, first_table_failing}
 use Rattle.bfd_engine.proofs.Common.{target_of, Answer, Event, SessionConfig, coming_to, coming_by, comes_to, Running, table_of, reply}
@@ -63,7 +63,7 @@ judged_call {engine} {shard} {place} {moment} {event} {k} is taken call =
       );
     }
 
--- what an arrival that comes to this is, where it is an own event of a session
+-- what an arrival that resolves to this is, if it is an own event of a session
 abbrev pub Taken : List SessionConfig → Destination → Type 0
 Taken configs (Discarded test) = Unit {0}
 Taken configs (Reflected place) = Unit {0}
@@ -83,7 +83,7 @@ judged_target (Echo place sequence) engine moment arrival k l outs outs2 (Ok ans
     (λ eff s. return_is sequence eff s) (dealt_event engine _ _ _ refl some taken) h
 judged_target target engine moment arrival k l outs outs2 (Err fault) some none own taken h = tt
 
--- the target of an arrival that comes to an own event
+-- the target of an arrival that resolves to an own event
 record IsFor (rows : List Row) (arrival : Arrival) : Type 0 where
   target : Target
   passes : None ≡ first_table_failing rows arrival

@@ -1,4 +1,4 @@
--- The session to which an arrival comes is there.
+-- The session that an arrival resolves to is present.
 use Rattle.bfd_instance.proofs.Common.{◌<◌, ℕ, List, Running, Event, configs_of, length, arith}
 use Rattle.std.proofs.lemmas.List.{length-map}
 use Rattle.std.proofs.lemmas.Option.{slice_get_within}

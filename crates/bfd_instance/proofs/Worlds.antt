@@ -1,4 +1,4 @@
--- The world of a script is one group of sessions with a pool beside it.
+-- The world of a script is one group of sessions with a pool alongside.
 use Rattle.bfd_instance.proofs.Common.{◌≡◌, ℕ, List, [], ◌++◌, refl, sym, ap, ◌∙◌, Option, None, Some, Out, Reflector, Running, Answer}
 use Rattle.bfd_instance.proofs.Common.{Event, World, own, own_of, ticks, turned, world_of, slice_get}
 use Rattle.bfd_shard.specs.declared.entry.ShardEvent.{ShardEvent}

@@ -153,7 +153,7 @@ impl<W: Timers> Instance<W> {
         pass::<W, Brand>(&mut self.sessions, t, &mut self.outs, Blank::new(1))
     }
 
-    /// One session more, of this configuration, which is within its ranges: it starts at the last tick. Answers its place. Nothing else
+    /// One more session, of this configuration, which is within its ranges: it starts at the last tick. Answers its place. Nothing else
     /// changes, the outputs of the last event neither. A fault says why it isn't added, and then nothing has changed; `Memory` comes only
     /// when out of memory, and where no other fault is. Takes time linear in the sessions and reflectors.
     pub fn add(&mut self, alloc: Global, config: SessionConfig) -> Result<u32, AddFault>
@@ -196,7 +196,7 @@ impl<W: Timers> Instance<W> {
         }
     }
 
-    /// One reflector more. Nothing else changes, the outputs of the last event neither. A fault says why it isn't added, as `add`
+    /// One more reflector. Nothing else changes, the outputs of the last event neither. A fault says why it isn't added, as `add`
     /// has it, and then nothing has changed.
     pub fn add_reflector(&mut self, reflector: Reflector) -> Result<(), AddFault>
         ensures world { OnOk result (self.new.world ≡ world.world_with_reflector reflector self.old.world) }

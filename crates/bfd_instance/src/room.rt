@@ -1,4 +1,4 @@
-//! Room for the outputs of one session more.
+//! Room for the outputs of one more session.
 ghost use Rattle.std.specs.Prelude.{◌≡◌, ◌≤◌, ◌++◌, OnOk, length};
 
 use bfd_rules::{Out, Outs};

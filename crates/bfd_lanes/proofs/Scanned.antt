@@ -5,7 +5,7 @@ use Rattle.std.proofs.lemmas.Bool.Decides.{nat_tests}
 use Rattle.bfd_num.specs.Due.{has_come}
 use Rattle.bfd_lanes.specs.Places.{never, due_of, places}
 
--- a number is a due tick that has come exactly where it is at most t
+-- a number is a due tick that has come if and only if it is at most t
 pub come_of : (t d : ℕ) → t < never → has_come t (due_of d) ≡ nat_le d t
 come_of t d below = grind (arith, nat_tests)
 

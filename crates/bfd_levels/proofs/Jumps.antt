@@ -1,4 +1,4 @@
--- A long advance: ids that are taken off, and ids that are linked anew.
+-- A long advance: ids that are taken off, and ids that are relinked.
 use Rattle.bfd_levels.proofs.Common.{◌≡◌, ◌≢◌, inl, inr, ℕ, ◌+◌, ◌<◌, ◌≤◌, true, false, cond, List, length, sym, ap, subst, arith, nat_lt}
 use Rattle.bfd_levels.proofs.Common.{slice_index, slice_set, get_or-set_same, get_or-set_other, nat_tests, cases_eq, never, Node, Unlinks}
 use Rattle.bfd_levels.proofs.Common.{due_in, next_in, prev_in, place, level_of, load, loads, at_tick, at_jump, IsPlaced, Relinks}
@@ -23,7 +23,7 @@ paid_gone {n} now {i} {dues} {nodes} nodes2 p near there size is u step =
           (get_or-set_same dues i never 0 (omega (arith, p.placed.count))) due_is same in omega (arith, p.cost));
     })
 
--- ---- all ids are linked anew
+-- ---- all ids are relinked
 
 pub jump_begins : (n now t : ℕ) (dues : List ℕ) (j : ℕ) → at_jump n now t 0 dues j ≡ at_tick n now dues j
 jump_begins n now t dues j = ap (λ b. cond b (place n t (slice_index dues j)) (place n now (slice_index dues j)))
@@ -44,7 +44,7 @@ jump_same : (n now t i j : ℕ) (dues : List ℕ) → j ≢ i → at_jump n now 
 jump_same n now t i j dues ne = ap (λ b. cond b (place n t (slice_index dues j)) (place n now (slice_index dues j)))
     (let test : nat_lt j (i + 1) ≡ nat_lt j i = grind (arith, nat_tests) in test)
 
--- no id comes to a higher level
+-- no id moves to a higher level
 jump_lower : (n : ℕ) {now t : ℕ} (i j : ℕ) (dues : List ℕ) → now ≤ t → t < slice_index dues j
     → level_of n (at_jump n now t (i + 1) dues j) ≤ level_of n (at_jump n now t i dues j)
 jump_lower n {now} {t} i j dues later above = elim (cases_eq j i) [

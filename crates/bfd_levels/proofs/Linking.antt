@@ -1,4 +1,4 @@
--- All ids linked anew, one after another.
+-- All ids relinked, one after another.
 use Rattle.bfd_levels.proofs.Common.{◌≡◌, ◌≢◌, ℕ, ◌+◌, ◌^◌, ◌<◌, ◌≤◌, List, length, subst, slice_index, never, Node, Links, next_in}
 use Rattle.bfd_levels.proofs.Common.{prev_in, place, at_tick, IsLevels}
 use Rattle.bfd_wheel.specs.Wheel.{first_dues}

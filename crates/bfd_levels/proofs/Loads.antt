@@ -66,7 +66,7 @@ pub loads_same : (n : ℕ) (at at2 : ℕ → ℕ) (dues : List ℕ) → ((j : �
 loads_same n at at2 dues same = total_same (load n at dues) (load n at2 dues) n
     (λ j near. load_same n at at2 dues dues j refl (same j near))
 
--- an id that is taken off a list takes one at least
+-- an id that leaves its list lowers the loads by one at least
 pub loads_gone : (n i : ℕ) (at at2 : ℕ → ℕ) (dues dues2 : List ℕ) → i < n → due_in dues i ≢ never → due_in dues2 i ≡ never
     → ((j : ℕ) → j ≢ i → due_in dues2 j ≡ due_in dues j) → ((j : ℕ) → j ≢ i → at2 j ≡ at j)
     → loads n at2 dues2 + 1 ≤ loads n at dues
@@ -75,7 +75,7 @@ loads_gone n i at at2 dues dues2 near on gone same lists =
     near in
     omega (arith, load_some n at dues i on, load_none n at2 dues2 i gone)
 
--- an id that comes to a lower level takes two at least
+-- an id that moves to a lower level lowers the loads by two at least
 pub loads_lower : (n i : ℕ) (at at2 : ℕ → ℕ) (dues : List ℕ) → i < n → due_in dues i ≢ never → level_of n (at2 i) < level_of n (at i)
     → ((j : ℕ) → j ≢ i → at2 j ≡ at j) → loads n at2 dues + 2 ≤ loads n at dues
 loads_lower n i at at2 dues near on low lists =

@@ -164,7 +164,7 @@ module _ (n m i : ℕ) (at : ℕ → ℕ) (dues : List ℕ) (nodes : List Node) 
       };
     }
 
-    -- an id with a due tick comes to another list
+    -- an id with a due tick moves to another list
     pub relinked : (h : ℕ) → slice_index dues i ≢ never → n ≤ h → h < n + m → at2 i ≡ h
         → Relinks i h (next_in nodes) (prev_in nodes) (next_in nodes2) (prev_in nodes2) → IsPlaced n m at2 dues nodes2
     relinked h there far inside own u = record {

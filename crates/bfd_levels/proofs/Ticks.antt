@@ -39,7 +39,7 @@ pub reached_few : {now t : ℕ} → now ≤ t → t < now + 65536 → reached_ti
 unfolding reached_till
 reached_few {now} {t} later near = omega arith
 
--- whoever is left is later, if nothing at most t is left on the overdue list
+-- every id that is left is later, if nothing at most t is left on the overdue list
 pub overdue_left : {n now t : ℕ} (dues : List ℕ) → t ≤ now
     → ((j : ℕ) → j < n → slice_index dues j ≢ never → midway n now now 5 (slice_index dues j) ≡ slot n now 5 → t < slice_index dues j)
     → (j : ℕ) → j < n → slice_index dues j ≢ never → t < slice_index dues j

@@ -7,7 +7,7 @@ use Rattle.bfd_levels.proofs.Placing.{can_move}
 use Rattle.bfd_levels.proofs.Midway.{midway_hit, midway_miss}
 use Rattle.bfd_levels.proofs.Walks.{IsWalk, cur_from, walk_stays, walk_takes, walk_moves, walk_placed, walk_spent, walk_left}
 
--- a visit takes no step back
+-- a visit never lowers the count of steps
 pub visit_rises : {n tick head id t : ℕ} {dues dues2 : List ℕ} {nodes nodes2 : List Node} {s s2 : ℕ}
     → Visit n tick head id t dues dues2 nodes nodes2 s s2 → s ≤ s2
 visit_rises (takes le is u cost) = omega arith

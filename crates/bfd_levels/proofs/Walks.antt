@@ -48,7 +48,7 @@ walk_begins {n} {m} {head} t s from to {dues} {nodes} w far inside =
 
 module _ (n m head t s bound : ℕ) (from to : ℕ → ℕ) (dues : List ℕ) (nodes : List Node) (cur i : ℕ)
     (w : IsWalk n m head t s bound from to dues nodes cur i) where
-  -- who isn't the head is an id
+  -- what isn't the head is an id
   pub walk_id : cur ≢ head → cur < n
   walk_id other = elim (cases_lt cur n) [
     | inl near ↦ near
@@ -70,7 +70,7 @@ module _ (n m head t s bound : ℕ) (from to : ℕ → ℕ) (dues : List ℕ) (n
   next_other near = λ e. absurd (let same_rank : w.placed.links.rank (next_in nodes cur) ≡ w.placed.links.rank cur = cc in
       omega (arith, w.placed.links.ring.falls cur near w.on))
 
-  -- who else is ahead is at most as far as the next
+  -- any other that is ahead is at most as far as the next
   next_seen : cur < n → (j : ℕ) → j < n → j ≢ cur → slice_index dues j ≢ never
       → Seen head t (w.placed.links.rank j) (w.placed.links.rank (next_in nodes cur)) (w.at j) (from (slice_index dues j))
       (to (slice_index dues j)) (slice_index dues j)

@@ -1,4 +1,4 @@
-//! All ids linked anew, by the list of their due ticks: where an id comes or leaves, those above it get other numbers.
+//! All ids relinked, by the list of their due ticks: when an id is added or removed, those above it get other numbers.
 ghost use Rattle.std.specs.Prelude.{◌≡◌, ◌+◌, ◌^◌, ◌<◌, ◌≤◌, map, length, IfSome, OnErr, OnOk};
 ghost use Rattle.std.specs.List.{insert, remove};
 ghost use Rattle.bfd_lanes.specs.Places.{due_of};
@@ -33,7 +33,7 @@ fn put_all(nodes: &mut [Node], dues: &[u64], now: u64)
     }
 }
 
-/// Links every node anew: no link from before stays.
+/// Relinks every node: no link from before stays.
 pub(crate) fn link_all(nodes: &mut Vec<Node>, dues: &[u64], now: u64)
     requires few { length dues.now ≤ 65536 }
     requires now { now < 2 ^ 60 }
@@ -44,7 +44,7 @@ pub(crate) fn link_all(nodes: &mut Vec<Node>, dues: &[u64], now: u64)
     put_all(nodes, dues, now);
 }
 
-/// One id more, with this due tick, if any: `id` and those above it move up by one. Fails only when out of memory, and
+/// One more id, with this due tick, if any: `id` and those above it move up by one. Fails only when out of memory, and
 /// then nothing has changed.
 pub(crate) fn insert_id(
     nodes: &mut Vec<Node>,

@@ -63,7 +63,7 @@ fn settle<L: Ledger>(
     }
 }
 
-/// Links all ids anew, as they belong at `t`: at most 2 steps each.
+/// Relinks all ids, as they belong at `t`: at most 2 steps each.
 fn settle_all<L: Ledger>(nodes: &mut [Node], dues: &[u64], now: u64, t: u64, steps: &mut Steps<L>)
     requires later { now ≤ t }
     requires above { (j : ℕ) → j < length dues.now → slice_index dues.now j ≢ never → t < slice_index dues.now j }
@@ -77,7 +77,7 @@ fn settle_all<L: Ledger>(nodes: &mut [Node], dues: &[u64], now: u64, t: u64, ste
     }
 }
 
-/// Takes what has come by `t`, at or after `now`, and links the rest anew: 1 step for the list of due ticks, one for each
+/// Takes what has come by `t`, at or after `now`, and relinks the rest: 1 step for the list of due ticks, one for each
 /// id that is taken, and at most two for each of the rest.
 pub(crate) fn jump<L: Ledger>(
     nodes: &mut [Node],

@@ -31,7 +31,7 @@ range_more : (a n j : ℕ) → a + n ≡ j → range_with_len a (suc n) ≡ rang
 range_more a zero j is = let same : a ≡ j = omega arith in cc
 range_more a (suc n) j is = cc (range_more (a + 1) n j (omega arith))
 
--- the same with one number more of a range, where each gives an element
+-- the same with one more number of a range, where each gives an element
 pub made_more : {X : Type 0} (f : ℕ → X) {n : ℕ} (m : ℕ) {j : ℕ} {before now : List X} → before ≡ map f (range_with_len 1 n)
     → now ≡ before ++ f j ∷ []
     → 1 + n ≡ j → m ≡ suc n → now ≡ map f (range_with_len 1 m)

@@ -59,7 +59,7 @@ split {sessions} t {i} within place =
     ∙ ap (filter (hears t)) (same_range (i + 1 + 299) (i + 300) (sessions - i - 299) (sessions + 1 - (i + 300)) (omega arith)
     (omega arith)))))
 
--- one session more has heard its packet
+-- one more session has heard its packet
 pub heard_one : {sessions : ℕ} (t : ℕ) {i : ℕ} (before : List Line) {now whole : List Line} → i ≤ sessions → t % 300 ≡ i % 300
     → before ++ packets_from sessions t i ≡ whole → now ≡ before ++ map (packet t) (filter (hears t) (i ∷ []))
     → now ++ packets_from sessions t (i + 300) ≡ whole

@@ -120,7 +120,7 @@ few_events {n} a (suc k) within = omega (
   length-append (tick_events n a) (flat_map (tick_events n) (range_with_len (a + 1) k)),
 )
 
--- no reflector stands beside them
+-- there is no reflector
 no_pool : ArePool []
 no_pool = record { ascends = tt; rows = tt }
 

@@ -1,4 +1,4 @@
--- A tick forgets a tail's last packet exactly where the deadline has come by its limit.
+-- A tick forgets a tail's last packet exactly when the deadline has come by its limit.
 use Rattle.bfd_mp.proofs.Common.{◌≡◌, ◌↔◌, ℕ, Bool, true, false, refl, Option, None, IsSome, if◌then◌else◌, has_come, Vars, is_up, Course}
 use Rattle.bfd_mp.proofs.Common.{changes, enters, TailConfig, deadline, Down}
 use Rattle.bfd_rules.proofs.Heard.{exactly}
@@ -21,7 +21,7 @@ unfolding settling.settle changes
 tail_heard c limit s = chosen (has_come limit (deadline s.vars)) _ s s.vars.heard
     (silent (is_up s.vars.state) (record s.vars { heard = None }) refl) refl
 
--- one that was there is gone exactly where the deadline has come by the limit
+-- one that was present is gone if and only if the deadline has come by the limit
 pub tail_expires : (c : TailConfig) (limit : ℕ) (s : Course) → IsSome s.vars.heard
     → ((settling.settle c limit s).vars.heard ≡ None) ↔ (has_come limit (deadline s.vars) ≡ true)
 tail_expires c limit s there = exactly (has_come limit (deadline s.vars)) s.vars.heard _ (tail_heard c limit s) there

@@ -1,4 +1,4 @@
--- What was put out before stays in front of what a head's rules put out, and changes nothing else of them.
+-- What was emitted before stays ahead of what a head's rules emit, and changes nothing else of them.
 use Rattle.bfd_mp.proofs.Common.{◌≡◌, ℕ, Bool, true, false, List, refl, is_some, floor_tick, has_come, Cmd, Out, Course, is_untold, based}
 use Rattle.bfd_mp.proofs.Common.{redrawn, after, either, changes-after, sends-after, HeadConfig, transmits, head_refusal, head_commanded}
 use Rattle.bfd_mp.proofs.Common.{head_done}

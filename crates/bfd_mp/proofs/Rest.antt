@@ -1,5 +1,5 @@
--- An event by which nothing is due, and which does nothing of its own, leaves sound variables as they are and puts
--- nothing out.
+-- An event by which nothing is due, and which does nothing of its own, leaves sound variables as they are and emits
+-- nothing.
 use Rattle.bfd_mp.proofs.Common.{◌≡◌, ◌&&◌, not, ℕ, Bool, true, false, refl, sym, ap, List, floor_tick, has_come, Out, Vars, may_send}
 use Rattle.bfd_mp.proofs.Common.{Course, course, begins, is_news, is_untold, drawn, redrawn, HeadConfig, TailConfig, deadline, IsHeadSound}
 use Rattle.bfd_mp.proofs.Common.{IsTailSound, Mark}
@@ -35,7 +35,7 @@ pub tail_settle_rests : (c : TailConfig) (limit : ℕ) (s : Course) → has_come
 unfolding tail.settle
 tail_settle_rests c limit s late = rw late refl
 
--- that is what the end of an event comes to where no packet may be sent: no news is told, and no due tick is drawn
+-- that is how an event ends when no packet may be sent: no news is reported, and no due tick is drawn
 
 tail_may_never : {c : TailConfig} (active : Bool) {v : Vars} → IsTailSound c v → may_send active v ≡ false
 tail_may_never active h = rw h.silent.remote_min_rx refl

@@ -1,4 +1,4 @@
--- What was put out before stays in front of what a tail's rules put out, and changes nothing else of them.
+-- What was emitted before stays ahead of what a tail's rules emit, and changes nothing else of them.
 use Rattle.bfd_mp.proofs.Common.{◌≡◌, ℕ, List, refl, is_some, Control, fields_of, has_come, Cmd, Out, is_admin_down, Course, TailConfig}
 use Rattle.bfd_mp.proofs.Common.{deadline, tail_refusal, tail_commanded, tail_done, after, either, changes-after}
 use Rattle.bfd_mp.specs.TailSettle as settling

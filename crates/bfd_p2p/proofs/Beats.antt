@@ -19,7 +19,7 @@ use Rattle.bfd_p2p.specs.Finish.{finish, extra}
 use Rattle.bfd_p2p.specs.Beat.{IsBeat, redrawn_at, sent_at}
 use Rattle.bfd_p2p.proofs.Idle.{renews_told}
 
--- a due tick that has come is there
+-- a due tick that has come is present
 there : (t : ℕ) (due : Option ℕ) → has_come t due ≡ true → IsSome due
 there t None h = cc
 there t (Some d) h = refl
@@ -45,7 +45,7 @@ may_stay active eff v Idle = refl
 may_stay active eff v Wanted = refl
 may_stay active eff v (Running first) = refl
 
--- the end of the tick has nothing to tell
+-- the end of the tick has nothing to report
 finish_draws : (c : Config) (eff : ℕ) (v : Vars) (outs : List Out) → may_send c.active (sent_at eff v) ≡ true
     → finish c eff (course (sent_at eff v) (tells v (begins v)) outs) ≡ course (redrawn_at eff v) (tells v (begins v)) outs
 unfolding finish extra redrawn drawn

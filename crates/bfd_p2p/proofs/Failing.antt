@@ -16,7 +16,7 @@ use Rattle.bfd_rules.specs.Sound.{IsRenewed, IsSteady}
 use Rattle.bfd_p2p.specs.Machine.{failed}
 use Rattle.bfd_p2p.specs.Over.{IsSettled}
 
--- what the failure leaves of the variables that the deadlines are made of
+-- what the failure leaves of the variables that the deadlines are computed from
 record Kept (eff : ℕ) (v w : Vars) : Type 0 where
   state : w.state ≡ Down
   used_rx : w.used_rx ≡ v.used_rx
@@ -30,7 +30,7 @@ record Kept (eff : ℕ) (v w : Vars) : Type 0 where
 demand_down : (v : Vars) → v.state ≡ Down → demand_here v ≡ false
 demand_down v h = grind (arith, common_steps)
 
--- the end of Demand mode starts the Detection Time anew
+-- the end of Demand mode restarts the Detection Time
 demand_kept : (eff : ℕ) (v x : Vars) (here : Bool) → demand_here v ≡ here → x.state ≡ Down → x.used_rx ≡ v.used_rx
     → x.remote_mult ≡ v.remote_mult → x.remote_tx ≡ v.remote_tx → x.heard ≡ v.heard → x.seq_heard ≡ v.seq_heard → x.base ≡ v.base
     → Kept eff v (demand_renewed eff v x)

@@ -50,7 +50,7 @@ renewed_idle : (eff : ℕ) (before : Vars) {v : Vars} → IsRenewed v → adv_tx
 unfolding renewed
 renewed_idle eff before {v} h adv rx demand = cc (poll_stands before v adv rx, used_stands h, demand_stands eff before v demand)
 
--- variables that stay are not told
+-- unchanged variables are not reported
 changes_none : (discr : ℕ) (s : Course) → changes discr s.vars s ≡ s
 unfolding changes
 changes_none discr s =

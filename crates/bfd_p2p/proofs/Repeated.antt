@@ -1,4 +1,4 @@
--- A packet that tells a session in Up nothing new changes nothing but the peer's state and when it was last heard.
+-- A packet with nothing new for a session in Up changes nothing but the peer's state and when it was last heard.
 use Rattle.std.proofs.Common.{◌≡◌, ℕ, Bool, true, false, refl, sym, subst, ◌∙◌, ap, List, None, Some, Ok, IsSome, find}
 use Rattle.bfd_num.specs.Numbers.{floor_tick}
 use Rattle.bfd_num.specs.Due.{has_come}
@@ -40,7 +40,7 @@ finish_rests {c} eff {v} os sound = rw (no_news v, drawn_stands c.active v sound
 abbrev heard_up : ℕ → Vars → Vars
 heard_up eff v = record v { remote_state = Up; heard = Some eff }
 
--- a session in Up from which nothing but Asynchronous mode is wanted, and that may send
+-- a session in Up from which nothing but Asynchronous mode is required, and that may send
 pub record IsCalm (c : Config) (v : Vars) : Type 0 where
   pub up : v.state ≡ Up
   pub plain : c.keys ≡ None
@@ -50,7 +50,7 @@ pub record IsCalm (c : Config) (v : Vars) : Type 0 where
   pub there : IsSome v.tx_due
   pub may : may_send c.active v ≡ true
 
--- a packet that tells what the session knows, and asks for nothing
+-- a packet that says what the session knows, and asks for nothing
 pub record IsRepeated (eff : ℕ) (packet : Control) (v : Vars) : Type 0 where
   pub up : packet.state ≡ Up
   pub poll : packet.poll ≡ false

@@ -1,4 +1,4 @@
-//! A packet that tells a session in Up nothing new (RFC 5880 section 6.8.6). Most packets do, so this looks for them first: the
+//! A packet with nothing new for a session in Up (RFC 5880 section 6.8.6). Most packets are such, so this looks for them first: the
 //! whole event then is that the peer, in Up, was heard at this moment.
 ghost use Rattle.std.specs.Prelude.{◌≡◌, ◌<◌, true, false, None, Some, IsSome, find};
 ghost use Rattle.bfd_num.specs.Numbers.{moment_bound, floor_tick as tick_of};
@@ -88,7 +88,7 @@ fn hears_moment(eff: u64, v: &mut Vars)
     v.at = eff;
 }
 
-/// Whether the packet with these fields tells the session nothing new; then it was heard, and else nothing is done.
+/// Whether the packet with these fields has nothing new for the session; then it was heard, and else nothing is done.
 pub fn hears(
     config: &Config,
     eff: u64,

@@ -29,7 +29,7 @@ fn is_due(config: &Config, limit: u64, v: &Vars) -> bool
         && !has_come(limit, seq_deadline(v))
 }
 
-/// The session has no authentication, and wants no Echo function.
+/// The session has no authentication, and needs no Echo function.
 fn is_plain(config: &Config, v: &Vars) -> bool
     ensures plain { result ≡ true → config.now.keys ≡ None }
     ensures echoless { result ≡ true → v.now.echo_every ≡ 0 }

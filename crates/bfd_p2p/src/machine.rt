@@ -187,7 +187,7 @@ impl P2p {
         settle(&self.config, limit, eff, &mut self.vars, mark, outs);
     }
 
-    /// Does a whole event by a packet that tells a session in Up nothing new, as `begin`, `settle`, `accept` and `finish` do it: then
+    /// Does a whole event by a packet with nothing new for a session in Up, as `begin`, `settle`, `accept` and `finish` do it: then
     /// the answer is true, and it was accepted. Else nothing is done. The packet is one that may be handed to `accept`.
     pub fn hears_again(&mut self, eff: u64, ttl: u8, raw: &[u8]) -> bool
         requires eff { eff < moment_bound }

@@ -13,7 +13,7 @@ impl State {
     ghost use Rattle.std.specs.Prelude.{◌≡◌};
     ghost use Rattle.bfd_packet.specs.States.{is_init_or_up, state_name};
 
-    /// Whether it is Init or Up: who is in one of them has heard the other side (RFC 5880 section 6.2).
+    /// Whether it is Init or Up: a system in one of them has heard the other side (RFC 5880 section 6.2).
     pub fn is_init_or_up(self) -> bool
         ensures { result ≡ is_init_or_up self }
     {

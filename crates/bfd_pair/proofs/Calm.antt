@@ -1,4 +1,4 @@
--- Only a packet in Init or Up makes a session tell a change to Up, or leaves one Up that wasn't.
+-- Only a packet in Init or Up makes a session report a change to Up, or leaves one Up that wasn't.
 use Rattle.bfd_pair.proofs.Common.{◌≡◌, inl, inr, ◌++◌, not, ℕ, Bool, true, false, List, [], ◌∷◌, refl, Option, None, Some, Result, Ok, Err}
 use Rattle.bfd_pair.proofs.Common.{if◌then◌else◌, both_ways, not-true, or_from, or_parts, Arrival, Control, State, AdminDown, Down, Init}
 use Rattle.bfd_pair.proofs.Common.{Up, Test, SeqState, fields_of, is_init_or_up, Cmd, Config, Out, Mark, Vars, is_up, same_state, Course}
@@ -13,7 +13,7 @@ use Rattle.bfd_session.specs.Echoing.{settled_by, settled_running, settles_echo}
 use Rattle.bfd_pair.proofs.Points.{IsPoint}
 use Rattle.bfd_pair.proofs.Rules.{Goes, moves_keeps, settle_keeps, commanded_keeps, finish_keeps, low_keeps}
 
--- no change to Up was told so far, and the session is Up only if it was at first
+-- no change to Up was reported so far, and the session is Up only if it was at first
 pub record Calm (was : Bool) (s : Course) : Type 0 where
   pub untold : tells_up s.outs ≡ false
   pub low : is_up s.vars.state ≡ true → was ≡ true

@@ -23,7 +23,7 @@ use Rattle.bfd_pair.proofs.Rules.{Goes, settle_keeps, commanded_keeps, finish_ke
 abbrev pub IsCold : List ℕ → Type 0
 IsCold bytes = is_init_or_up (fields_of bytes).state ≡ false
 
--- the session isn't in Init or Up, and has put out no packet in either
+-- the session isn't in Init or Up, and has emitted no packet in either
 pub record Cold (s : Course) : Type 0 where
   pub state : is_init_or_up s.vars.state ≡ false
   pub packets : Each IsCold (packets_among s.outs)

@@ -1,4 +1,4 @@
--- A side comes to Up by a handshake alone.
+-- A side goes to Up only by a handshake.
 use Rattle.bfd_pair.proofs.Common.{◌≡◌, ◌⊎◌, inl, inr, ◌++◌, ◌*◌, max, ℕ, Bool, true, false, List, [], ◌∷◌, length, refl, Option, None}
 use Rattle.bfd_pair.proofs.Common.{Some, both_ways, Arrival, Test, fields_of, is_init_or_up, Config, is_up, SessionConfig, Pair, discr_of}
 use Rattle.bfd_pair.proofs.Common.{Side, Left, Right, PairEvent, Tick, Give, Order, End, Both, Move, other, side_of, items_of, packet_at}
@@ -19,7 +19,7 @@ record Rises (w : Both) (event : PairEvent) (side : Side) : Type 0 where
   state : is_init_or_up (fields_of bytes).state ≡ true
   your : (fields_of bytes).your ≡ discr_of (side_of side w).session.config
 
--- a side tells no change to Up, and is Up only if it was
+-- a side reports no change to Up, and is Up only if it was
 record Stays (e : End) (m : Move) : Type 0 where
   untold : tells_up m.items ≡ false
   low : is_up m.end.session.vars.state ≡ true → is_up e.session.vars.state ≡ true

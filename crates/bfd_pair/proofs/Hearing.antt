@@ -9,7 +9,7 @@ use Rattle.bfd_pair.proofs.Packets.{each_at, Later, first_or_later}
 use Rattle.bfd_pair.proofs.Cold.{IsCold}
 use Rattle.bfd_pair.proofs.Sides.{Grows, Quiet, Hears, hears_or_quiet}
 
--- one event more
+-- one more event
 
 after-append : (w : Both) (xs ys : List PairEvent) → both_after (xs ++ ys) w ≡ both_after ys (both_after xs w)
 after-append w [] ys = refl
@@ -86,7 +86,7 @@ packet_then event {e} t g now k bytes there warm =
       | inr later ↦ now k bytes later warm
     ]
 
--- who had heard the other side has heard it
+-- a side that had heard the other has heard it
 told_warm : {left right : SessionConfig} {side : Side} {past : List PairEvent} (event : PairEvent) {e e2 : End}
     → Told left right side past e → Grows e e2 → ((n : ℕ) → length e.sent ≤ n → HeardBy left right side (past ++ event ∷ []) n)
     → Told left right side (past ++ event ∷ []) e2

@@ -1,4 +1,4 @@
--- A packet that fails no test up to selection over a session's one row: the session takes it, and in Init or Up it names the session.
+-- A packet that fails no test up to selection over a session's one row: the session accepts it, and in Init or Up it names the session.
 use Rattle.bfd_pair.proofs.Common.{◌≡◌, ◌==◌, ◌&&◌, ◌||◌, ◌++◌, not, ℕ, Bool, true, false, List, [], ◌∷◌, refl, None, Some, if◌then◌else◌}
 use Rattle.bfd_pair.proofs.Common.{arith, find, Arrival, Test, fields_of, is_init_or_up, Config, SessionConfig, Pair, Packet, discr_of}
 use Rattle.bfd_pair.proofs.Common.{CanTake, arrival_to, screened, nat_tests, first_header_failing, first_table_failing, first_failing_on}
@@ -84,7 +84,7 @@ pub names : (config : SessionConfig) (bytes : List ℕ) {arrival : Arrival} → 
 names (Pair c) bytes {arrival} is state h = cc (names_by c.role c.discr c.iface c.local c.remote arrival (cc) (rw (← way_port c is) h))
 names config bytes is state h = cc
 
--- the session takes it
+-- the session accepts it
 
 plain_by : (role : Role) (discr iface : ℕ) (local remote : Addr) (arrival : Arrival)
     → first_failing_on (port_of role) (row role discr iface local remote ∷ []) arrival ≡ None → (fields_of arrival.payload).multi ≡ false

@@ -27,7 +27,7 @@ opened_peer p is table way = record {
 pub few : (from : ℕ) (items : List Out) → length (packets_among (drop from items)) ≤ length items - from
 few from items = omega (arith, packets_few (drop from items), length-drop from items)
 
--- what was put out since
+-- what was emitted since
 pub put_since : (from : ℕ) (before more after : List Out) → after ≡ before ++ more → from ≡ length before → drop from after ≡ more
 put_since from before more after e at = cc (ap (λ (k : ℕ). drop k after) at, drop-append_seam before more)
 
@@ -43,7 +43,7 @@ pub takes_packet : (p : Peer) (arrival : Arrival) → IsPeer p → arrival ≡ b
     → first_header_failing arrival ≡ None → first_table_failing p.table arrival ≡ None → CanTake p.session.config (Packet arrival)
 takes_packet p arrival peer is header none = takes p.session.config (cc (peer.way arrival.payload)) header (rw (← peer.table) none)
 
--- a packet comes to a side as it arrives
+-- a packet reaches a side as it arrives
 pub comes_by : (p : Peer) (moment last : ℕ) (arrival : Arrival) (bytes : List ℕ) → IsPeer p → arrival ≡ by_way p.way bytes
     → comes (arrival_to p.session.config bytes) moment last (seen p) ≡ arrives moment last arrival (seen p)
 comes_by p moment last arrival bytes peer is = cc (peer.way bytes)

@@ -24,7 +24,7 @@ starts is = record {
   few_rises = omega arith;
 }
 
--- a sum over the schedule and one event more
+-- a sum over the schedule and one more event
 sum_more : (count : PairEvent → PairTurn → ℕ) (seed e : ℕ) {sum sum2 : ℕ} (event : PairEvent) {w : Both}
     → sum ≡ total_of count seed (schedule seed e) → w ≡ run_of_seed seed (schedule seed e)
     → schedule seed e ++ event ∷ [] ≡ schedule seed (suc e) → sum2 ≡ sum + count event (turn event w)

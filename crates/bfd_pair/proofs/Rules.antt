@@ -1,6 +1,6 @@
 -- What every rule of a point-to-point session keeps, but for the state machine's answer to a packet in Init or Up: a fact of a
 -- session's state and its outputs which holds on where variables change and the state doesn't, where the state changes to one of the
--- allowed ones and is told, and where a packet with the present state is sent.
+-- allowed ones and is reported, and where a packet with the present state is sent.
 use Rattle.bfd_pair.proofs.Common.{◌≡◌, ◌⊎◌, inl, inr, ◌&&◌, ℕ, not, Bool, true, false, refl, ◌∙◌, is_some, if◌then◌else◌, floor_tick}
 use Rattle.bfd_pair.proofs.Common.{Control, State, AdminDown, Down, Init, Up, SeqState, is_init_or_up, Cmd, Config, Mark, Vars, may_send}
 use Rattle.bfd_pair.proofs.Common.{deadline, seq_deadline, is_idle, is_admin_down, Course, course, changes, sends, enters, tells, is_untold}

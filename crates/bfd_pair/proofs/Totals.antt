@@ -1,4 +1,4 @@
--- Sums over events, and one event more.
+-- Sums over events, and one more event.
 use Rattle.std.proofs.Common.{◌≡◌, ◌+◌, ◌++◌, ℕ, List, [], ◌∷◌, zero, suc, length, length-append, refl, arith}
 use Rattle.bfd_pair.specs.declared.event.PairEvent.{PairEvent}
 use Rattle.bfd_pair.specs.Run.{Both, PairTurn, turn, both_after, pair_run}

@@ -1,4 +1,4 @@
--- What an arrival comes to, as a route.
+-- What an arrival resolves to, as a route.
 use Rattle.bfd_replay.proofs.PlanCommon.{◌≡◌, ℕ, List, [], ◌∷◌, Option, Some, Result, Ok, Err, slice_get, Reflector, SessionConfig, Apart}
 use Rattle.bfd_replay.proofs.PlanCommon.{happening_by, reflecting}
 use Rattle.bfd_packet.specs.declared.arrival.Arrival.{Arrival}
@@ -38,7 +38,7 @@ module _ (cs : List SessionConfig) (pool : List Reflector) (arrival : Arrival) (
       by (Err t) e = absurd (cc)
       by (Ok datagram) e = cc (h.1.its)
 
-  -- an own event, which its session takes
+  -- an own event, which its session accepts
   pub taken : (d : Destination) (place : ℕ) (event : Event) → IsComing cs pool arrival d (coming.Own place event)
       → (arriving moment arrival d ≡ Happens place moment event) × IsTaken cs place event
   taken (Discarded t) place event h = absurd (cc)

@@ -1,4 +1,4 @@
--- Once the engine is closed: each shard's journal has its own worker's entries alone, so each worker told what its queues give.
+-- Once the engine is closed: each shard's journal has its own worker's entries alone, so each worker reported what its queues give.
 use Rattle.bfd_replay.proofs.WorkerCommon.{◌≡◌, ◌≢◌, ◌<◌, ◌≤◌, ◌+◌, ◌%◌, ◌==◌, ◌||◌, ◌∙◌, ◌∷◌, Bool, true, false, ℕ, zero, suc, [], List}
 use Rattle.bfd_replay.proofs.WorkerCommon.{length, map, get_or, sym, ap, subst, refl, arith, Some, Result, Ok, Err, slice_get}
 use Rattle.bfd_replay.proofs.WorkerCommon.{slice_index_or, if◌then◌else◌, length-map, get_or-map, slice_get-get_or, slice_get_within}
@@ -184,7 +184,7 @@ journal_seen {workers} {s} {i} {v} {shard} a h closed e own =
       all_calls v.pass.0 (seen_at v.pass s) (sole_seen a h closed e own),
     )
 
--- what a worker told of a shard that it takes
+-- what a worker reported of a shard of its own
 
 own_at : {workers i : ℕ} (s : ℕ) {queues own : List (List Numbered)} → AreOwn workers i queues own → s < length queues → s % workers ≡ i
     → slice_index_or own s [] ≡ slice_index_or queues s []

@@ -1,4 +1,4 @@
--- One event more is told.
+-- One more event is reported.
 use Rattle.bfd_replay.proofs.StreamCommon.{◌≡◌, ◌+◌, ◌++◌, ◌∙◌, ℕ, List, [], ◌∷◌, length, Option, ap, refl, sym, subst, append_assoc}
 use Rattle.bfd_replay.proofs.StreamCommon.{append-nil, arith, Appends, Line, Outcome, done_line, dropped, event_lines, lines_from}
 use Rattle.bfd_replay.proofs.StreamCommon.{packets_sent, report, Happening, happening, happenings, happening_outcomes, ToldUpTo, Telling}
@@ -23,7 +23,7 @@ use Rattle.bfd_replay.specs.Working.{IsSole, entries_by}
 use Rattle.bfd_replay.proofs.Going.{earlier_sole, entries_both}
 use Rattle.bfd_replay.proofs.OneCaller.{cut_short, history_after, outcome_first, outcomes_none, past_after, past_few}
 
--- more was told
+-- more was reported
 pub told_on : {first next last : Option (List ℕ)} {start told after : Telling} {all some rest : List Outcome}
     → ToldUpTo first next start told all some → ToldUpTo next last told after some rest → ToldUpTo first last start after all rest
 told_on {first} {next} {last} {start} {told} {after} {all} {some} {rest} so_far now = record {
@@ -66,7 +66,7 @@ event_told old new before after o events txs drops took rest = record {
   drops = omega (arith, drops, sum_by-cons dropped o rest);
 }
 
--- what was told of a script so far by caller 0, if it is the engine's only one
+-- what was reported of a script so far by caller 0, if it is the engine's only one
 pub record IsTelling (engine : Shards) (lines left : List Line) (l : Knows) (old now : Option (List ℕ))
     (before after : Telling) : Type 0 where
   pub past : List ShardEvent
@@ -98,7 +98,7 @@ module _ {engine : Shards} {lines left rest : List Line} {line : Line} {l : Know
   abbrev h : Happening
   h = happening engine.configs engine.pool line
 
-  -- what the lines give that are left when this one was told
+  -- what the lines give that are left once this one was reported
   abbrev later : List Outcome
   later = happening_outcomes (last_tick (past_after t.past h)) (happenings engine.configs engine.pool rest)
       (runs (past_after t.past h) engine.configs)
@@ -165,7 +165,7 @@ module _ {engine : Shards} {lines left : List Line} {l : Knows} {old now : Optio
       → TookFront old now (before.text ++ lines_from (before.events + 1) (outcomes_on engine (happenings engine.configs engine.pool lines)))
   telling_end s = (told.text ++ lines_from (told.events + 1) [], (telling_all s).lines)
 
--- the report of all events, where nothing was told at first
+-- the report of all events, if nothing was reported at first
 module _ (old mid new : Option (List ℕ)) (start told : Telling) (os : List Outcome) (text : start.text ≡ []) (events : start.events ≡ 0)
     (txs : start.txs ≡ 0) (drops : start.drops ≡ 0) where
   report_is : report os ≡ (start.text ++ lines_from (start.events + 1) os)

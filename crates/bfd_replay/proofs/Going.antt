@@ -223,7 +223,7 @@ before_end : (parts : List (List Piece)) (part : List Piece) {r : ℕ} → r < l
     → slice_index_or (parts ++ part ∷ []) r [] ≡ slice_index_or parts r []
 before_end parts part {r} h = get_or_append_left parts (part ∷ []) [] r h
 
--- one shard more had it
+-- one more shard had it
 module _ (engine : Shards) (t at : ℕ) (k l m : Knows) (outs2 : List Out) (answer : Answer) (first : k.0 ≡ 0)
     (h : HasTicked engine t at k l) where
   on_by : IsCall engine at (Tick t) l m [] outs2 answer → HasTicked engine t (at + 1) k m
@@ -259,7 +259,7 @@ module _ (engine : Shards) (t at : ℕ) (k l m : Knows) (outs2 : List Out) (answ
       tick_gave result d is (subst (λ s. IsSole 0 (seen_at m s)) (sym here) sole)
       ∙ ap (λ s. given_after (configs_at engine s) (seen_at k s) (Tick t)) here
 
-  -- and what it told there
+  -- and what it reported there
   pub tick_told : (number : ℕ) (parts : List (List Piece)) (result : Result Answer EngineFault) → length parts ≡ at
       → HaveToldTick engine number t at k l parts
       → IsDone (Turns at (Tick t)) engine l m [] outs2 result → result ≡ Ok answer

@@ -1,4 +1,4 @@
--- A shard's sessions after its history, and what it tells of one event more.
+-- A shard's sessions after its history, and what it reports of one more event.
 use Rattle.bfd_replay.proofs.ReportCommon.{◌≡◌, suc, ◌≢◌, ◌⊎◌, inl, inr, ◌<◌, ◌+◌, ◌/◌, ◌%◌, ◌++◌, max, ℕ, List, [], ◌∷◌, length, map}
 use Rattle.bfd_replay.proofs.ReportCommon.{get_or, refl, ap, ◌∙◌, append_assoc, append-nil, arith, Option, None, Some, ext_get_or}
 use Rattle.bfd_replay.proofs.ReportCommon.{cons_option, filter_map, get_or-map, length-map, cases_eq, eq-eqb, ne_eqb, Event, Outcome}
@@ -83,7 +83,7 @@ queue_events n r number [] = refl
 queue_events n r number (Apart o ∷ hs) = queue_events n r (number + 1) hs
 queue_events n r number (Among e ∷ hs) = cc (queued n number (event_in n r e) (queue n r (number + 1) hs), queue_events n r (number + 1) hs)
 
--- one event more
+-- one more event
 
 queue_by : (o : Option Numbered) {xs : List Numbered} (ys zs : List Numbered) → xs ≡ ys ++ zs → cons_option o xs ≡ cons_option o ys ++ zs
 queue_by None ys zs e = e

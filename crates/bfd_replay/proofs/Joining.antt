@@ -1,4 +1,4 @@
--- Passes that are made for the workers, and taken in again.
+-- Passes that are made for the workers, and joined again.
 use Rattle.bfd_replay.proofs.WorkerCommon.{◌≡◌, ◌≢◌, ◌<◌, ◌≤◌, ◌+◌, ◌*◌, ◌%◌, ◌++◌, ◌∙◌, ◌∷◌, ℕ, zero, suc, [], List, length, map, sym, ap}
 use Rattle.bfd_replay.proofs.WorkerCommon.{refl, append_assoc, append-nil, arith, length-append, Some, slice_get, slice_index_or}
 use Rattle.bfd_replay.proofs.WorkerCommon.{map-append, ne_eqb, slice_get_within, same_Some, dite, ℕ_discrete, Shards, Knows, IsOf, AllThere}
@@ -65,7 +65,7 @@ jobs_more engine queues workers at l m works works2 w j is of there zero_is used
   });
 }
 
--- passes that are taken in
+-- passes that are joined
 
 pub joined_none : {engine : Shards} (most : ℕ) (k : Knows) → IsOf engine k.1 → AllThere k.1 → k.0 ≡ 0 → AllJobsJoined engine most k k []
 joined_none most k of there zero_is = record {

@@ -1,4 +1,4 @@
--- A part's marks and text, as pieces are told and taken.
+-- A part's marks and text, as pieces are reported and taken.
 use Rattle.bfd_replay.proofs.ReportCommon.{◌≡◌, ◌≤◌, ◌+◌, ◌++◌, ℕ, List, [], ◌∷◌, length, drop, map, Result, Ok, Err, OnOk, OnErr, refl, ap}
 use Rattle.bfd_replay.proofs.ReportCommon.{◌∙◌, append-nil, arith, length-append, length-drop, AllByRecursion, take-append-le}
 use Rattle.bfd_replay.proofs.ReportCommon.{drop-append-le, sum_by-append, sum_by-cons, Out, Outcome, Mark, Piece, texts, whole_piece}
@@ -47,7 +47,7 @@ all_append [] [] h k = tt
 all_append [] (p ∷ ps) h k = (k.0, all_append [] ps tt k.1)
 all_append (m ∷ ms) ps h k = (h.0, all_append ms ps h.1 k)
 
--- a part where these pieces more were told
+-- a part to which these pieces more were reported
 part_more : (ms ms2 : List Mark) (t t2 : List ℕ) (ps : List Piece) → IsPart ms t → ms2 ≡ ms ++ map mark_of ps → t2 ≡ t ++ texts ps
     → AllByRecursion HasText ps → IsPart ms2 t2
 part_more ms ms2 t t2 ps s m e k =
@@ -56,12 +56,12 @@ part_more ms ms2 t t2 ps s m e k =
       counts = all_append ms ps s.counts k;
     }))
 
--- and what it tells then
+-- and what it reports then
 told_more : (ms ms2 : List Mark) (t t2 : List ℕ) (ps : List Piece) → IsPart ms t → ms2 ≡ ms ++ map mark_of ps → t2 ≡ t ++ texts ps
     → pieces_at ms2 t2 ≡ pieces_at ms t ++ ps
 told_more ms ms2 t t2 ps s m e = cc (pieces_append ms (map mark_of ps) t (texts ps) s.whole, pieces_back ps)
 
--- a part where all of another was told behind it
+-- a part to which all of another was appended
 part_both : (ms ms2 ns : List Mark) (t t2 u : List ℕ) → IsPart ms t → IsPart ns u → ms2 ≡ ms ++ ns → t2 ≡ t ++ u → IsPart ms2 t2
 part_both ms ms2 ns t t2 u s l m e =
     rw m (rw e (record {
@@ -81,7 +81,7 @@ items_have n (o ∷ os) = (omega (arith, item_some n o), items_have n os)
 pub whole_has : (n : ℕ) (o : Outcome) → HasText (whole_piece n o)
 whole_has n o = event_some n o
 
--- pieces more were told, or none
+-- more pieces were reported, or none
 module _ {T E : Type 0} where
   pub part_by : (r : Result T E) (ms ms2 : List Mark) (t t2 : List ℕ) (ps : List Piece) → IsPart ms t
       → OnOk r (ms2 ≡ ms ++ map mark_of ps) → OnOk r (t2 ≡ t ++ texts ps) → OnErr r (ms2 ≡ ms) → OnErr r (t2 ≡ t)
@@ -94,7 +94,7 @@ module _ {T E : Type 0} where
   told_by (Ok x) ms ms2 t t2 ps before s v m e = cc (told_more ms ms2 t t2 ps s m e)
   told_by (Err x) ms ms2 t t2 ps before s v m e = tt
 
-  -- all of another part was told, or nothing
+  -- all of another part was reported, or nothing
   pub both_by : (r : Result T E) (ms ms2 ns : List Mark) (t t2 u : List ℕ) → IsPart ms t → IsPart ns u
       → OnOk r (ms2 ≡ ms ++ ns) → OnOk r (t2 ≡ t ++ u) → OnErr r (ms2 ≡ ms) → OnErr r (t2 ≡ t) → IsPart ms2 t2
   both_by (Ok x) ms ms2 ns t t2 u s l m e n f = part_both ms ms2 ns t t2 u s l m e

@@ -95,13 +95,13 @@ behind_at (x ∷ xs) [] k same = absurd (omega (arith, same))
 behind_at (x ∷ xs) (y ∷ ys) zero same = refl
 behind_at (x ∷ xs) (y ∷ ys) (suc k) same = behind_at xs ys k (omega (arith, same))
 
--- a queue more behind one shard's
+-- one more queue behind one shard's
 pub behind_next : (done : List (List Numbered)) {xs ys all after left rest : List (List Numbered)} {x q both : List Numbered}
     → left ≡ x ∷ rest → all ≡ q ∷ ys → both ≡ x ++ q → after ≡ done ++ both ∷ []
     → done ++ behind left all ≡ xs → after ++ behind rest ys ≡ xs
 behind_next done {ys} {rest} {x} {q} split one two is so_far = cc (append_assoc done ((x ++ q) ∷ []) (behind rest ys))
 
--- one run more
+-- one more run
 put_run : {configs : List SessionConfig} {pool : List Reflector} {all lines : List Line}
     (rest : List Line) {shards number : ℕ} {before queues after : List (List Numbered)} {apart told apart2 : List Piece}
     → IsRunPlanned configs pool shards number lines queues told → after ≡ behind before queues → apart2 ≡ apart ++ told

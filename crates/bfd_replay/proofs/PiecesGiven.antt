@@ -5,7 +5,7 @@ use Rattle.bfd_replay.proofs.ReportCommon.{first_key, keys, first_text, first_tx
 use Rattle.bfd_replay.proofs.Written.{front_of_longer, took_front}
 use Rattle.bfd_replay.proofs.Taking.{Going, go, gone, txs_of, drops_of}
 
--- a sink took a prefix of the pieces' text, this text is what it didn't take, and the others are left
+-- a sink accepted a prefix of the pieces' text, this text is the rest of it, and the others are left
 pub record Giving (all : List Dealt) (parts : List (List Piece)) (old new : Option (List ℕ)) (before text : List ℕ) (txs drops : ℕ) : Type 0
   where
     pub front : List ℕ
@@ -35,7 +35,7 @@ give_more {old} {mid} {new} {kept} (given, now, split) g = record {
   going = rw (← ap (λ t. g.front ++ t) split ∙ sym (append_assoc g.front given kept)) g.going;
 }
 
--- what was taken of all text
+-- what was accepted of all text
 given_up_to : {all : List Dealt} {parts : List (List Piece)} {old new : Option (List ℕ)} {before text : List ℕ} {txs drops : ℕ}
     → (g : Giving all parts old new before text txs drops) → TookUpTo old new (before ++ dealt_text all) (text ++ dealt_text g.going.left)
 given_up_to {text} g = (g.front, g.took, cc (append_assoc g.front text (dealt_text g.going.left)))

@@ -1,4 +1,4 @@
--- One line more is planned.
+-- One more line is planned.
 use Rattle.bfd_replay.proofs.PlanCommon.{◌≡◌, ◌⊎◌, inl, inr, ◌<◌, ◌≤◌, ◌+◌, ◌++◌, ℕ, List, [], ◌∷◌, length, sym, ap, subst, append_assoc}
 use Rattle.bfd_replay.proofs.PlanCommon.{append-nil, arith, Option, None, Some, slice_index_or, AllByRecursion, cons_option, Reflector}
 use Rattle.bfd_replay.proofs.PlanCommon.{SessionConfig, Line, Happening, Apart, Among, in_shard, numbered, queue, told_apart, IsPlanned}

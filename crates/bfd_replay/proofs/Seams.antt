@@ -247,7 +247,7 @@ pub four_counts : (a b c d : ℕ) {one two three four all : ℕ} → one ≡ 0 +
     → (a + b) + (c + d) ≡ all → four ≡ all
 four_counts a b c d f g h k e = omega (arith, f, g, h, k, e)
 
--- a text more is the last
+-- one more text is the last
 pub text_more : {X : Type 0} (f : X → List ℕ) (xs ys : List X) (x : X) (line : List ℕ) {none own : List ℕ} → ys ≡ xs ++ x ∷ [] → f x ≡ own
     → none ≡ [] → own ≡ none ++ line → flat_map f ys ≡ flat_map f xs ++ line
 text_more f xs ys x line e is z t = cc (flat_map-append f xs (x ∷ []), append-nil line)

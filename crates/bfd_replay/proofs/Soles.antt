@@ -51,7 +51,7 @@ pub given_done : (w : ℕ) (cs : List SessionConfig) {before : List Entry} (es :
     → given_after cs before event ≡ outcome_of (last_tick es) event (runs es cs)
 given_done w cs es event is = cc (events_entries w es)
 
--- one event more
+-- one more event
 pub done_more : {engine : Shards} {shard : ℕ} {k l : Knows} {done : List Numbered} {e : Numbered} {part part2 : List Piece}
     → HasTold engine shard e k l part part2
     → l.0 ≡ k.0 → taken_at l shard ≤ taken_at k shard + 1 → HasDoneEvents engine shard k.0 done (seen_at k shard) (taken_at k shard) part

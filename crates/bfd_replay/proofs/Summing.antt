@@ -62,7 +62,7 @@ any [] k d e h = absurd (omega (arith, h))
 any (x ∷ xs) zero d e h = refl
 any (x ∷ xs) (suc k) d e h = any xs k d e (omega (arith, h))
 
--- one shard more is what its journal makes of it
+-- one more shard is what its journal makes of it
 pub kept_more : (xs : List Shard) (at : ℕ) (x : Shard) → at < length xs → x ≡ get_or xs at x → IsShard x
     → ((k : ℕ) (d : Shard) → k < at → IsShard (get_or xs k d)) → (k : ℕ) (d : Shard) → k < at + 1 → IsShard (get_or xs k d)
 kept_more xs at x inside is one kept k d h = dite (ℕ_discrete k at) (λ same. rw same (subst IsShard (is ∙ any xs at x d inside) one))

@@ -6,7 +6,7 @@ use Rattle.bfd_replay.proofs.ReportCommon.{refl, ap, ◌∙◌, append_assoc, ap
 use Rattle.bfd_replay.proofs.ReportCommon.{sum_by-cons, Key, Piece, Dealt, pieces_in, IsSpread, dealt_text, IsLeast, first_key, head_key}
 use Rattle.bfd_replay.proofs.ReportCommon.{keys, sym, first_text, first_txs, first_drops, sum_by, nat_tests}
 
--- how many packets dealt pieces tell were sent and were dropped
+-- how many packets dealt pieces report as sent and as dropped
 abbrev pub txs_of : List Dealt → ℕ
 txs_of ds = sum_by (λ d. d.piece.txs) ds
 

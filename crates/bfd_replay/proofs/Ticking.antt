@@ -1,4 +1,4 @@
--- What the shards tell of a tick is what the whole table gives.
+-- What the shards report of a tick is what the whole table gives.
 use Rattle.bfd_replay.proofs.ReportCommon.{Option, TookFront, TookUpTo, lines_from, ◌++◌, ◌≡◌, ◌<◌, ◌+◌, ◌∙◌, ℕ, List, [], ◌∷◌}
 use Rattle.bfd_replay.proofs.ReportCommon.{length, ap, sym, subst, append-nil, arith, sum_by-cons, Among, AreParts, Piece, event_pieces}
 use Rattle.bfd_replay.proofs.ReportCommon.{Dealt, IsSpread, dealt_text, dropped, event_lines, packets_sent, Outcome, Running, last_tick}

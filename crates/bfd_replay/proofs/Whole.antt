@@ -264,7 +264,7 @@ items_txs n number items k (s ∷ ss) = omega (
   sum_by-append packets_sent_by (items s) (flat_map items ss),
 )
 
--- what dealt pieces tell, added up, where each event's pieces tell what its outcome does
+-- what dealt pieces report, added up, where each event's pieces report what its outcome does
 all_sum : {n : ℕ} (f : Dealt → ℕ) {g : Outcome → ℕ} → ((number : ℕ) (o : Outcome) → f (deal n (whole_piece number o)) ≡ g o)
     → ((number last : ℕ) (e : ShardEvent) (ss : List Running) → sum_by f (deal_event n number last e ss) ≡ g (outcome_of last e ss))
     → (number last : ℕ) (hs : List Happening) (ss : List Running)

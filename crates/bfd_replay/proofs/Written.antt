@@ -1,4 +1,4 @@
--- What a sink took, over several calls.
+-- What a sink accepted, over several calls.
 use Rattle.bfd_replay.proofs.ReportCommon.{ℕ, List, [], ◌∷◌, ◌++◌, ◌≡◌, ◌<◌, ap, drop-cons, flat_map, flat_map-append, get_or, length, suc}
 use Rattle.bfd_replay.proofs.ReportCommon.{take, drop, None, append-nil, Option, Result, Ok, Err, refl, sym, subst, ◌∙◌, append_assoc}
 use Rattle.bfd_replay.proofs.ReportCommon.{Appends, TookUpTo}
@@ -6,18 +6,18 @@ use Rattle.bfd_replay.proofs.ReportCommon.{TookFront, Appends-nil, Appends-trans
 use Rattle.std.specs.Prelude.{OnOk}
 use Rattle.std.proofs.lemmas.List.{take-append-drop}
 
--- before the first call nothing was taken
+-- before the first call nothing was accepted
 pub none_taken : (known : Option (List ℕ)) (text : List ℕ) → TookUpTo known known text text
 none_taken known text = ([], Appends-nil known, refl)
 
 pub took_nothing : (known : Option (List ℕ)) (text : List ℕ) → TookFront known known text
 took_nothing known text = (text, none_taken known text)
 
--- a sink that tells nothing may have taken anything
+-- a sink of which nothing is observed may have accepted anything
 pub took_unread : (known : Option (List ℕ)) (text : List ℕ) → known ≡ None → TookUpTo known known text []
 took_unread known text none = (text, subst (λ k. Appends k k text) (sym none) tt, sym (append-nil text))
 
--- one more piece was taken
+-- one more piece was accepted
 pub took_more : (first next last : Option (List ℕ)) {text rest : List ℕ} (n : ℕ) → TookUpTo first next text rest
     → Appends next last (take n rest) → TookUpTo first last text (drop n rest)
 took_more first next last {rest} n (front, so_far, whole) more = (
@@ -26,7 +26,7 @@ took_more first next last {rest} n (front, so_far, whole) more = (
   whole ∙ rw (append_assoc, take-append-drop n rest) refl,
 )
 
--- of what was left more was taken, up to a rest, as a prefix, and whole
+-- of what was left more was accepted, up to a rest, as a prefix, and whole
 pub took_on : (first next last : Option (List ℕ)) (text mid rest : List ℕ) → TookUpTo first next text mid → TookUpTo next last mid rest
     → TookUpTo first last text rest
 took_on first next last text mid rest (front, so_far, whole) (more, now, is) =
@@ -41,7 +41,7 @@ pub took_rest : (first next last : Option (List ℕ)) (text mid : List ℕ) → 
 took_rest first next last text mid (front, so_far, whole) now =
     subst (Appends first last) (sym whole) (Appends-trans first next last front mid so_far now)
 
--- of a longer text the same was taken
+-- of a longer text the same was accepted
 pub took_of_longer : (old new : Option (List ℕ)) (text rest more : List ℕ) → TookUpTo old new text rest
     → TookUpTo old new (text ++ more) (rest ++ more)
 took_of_longer old new text rest more (front, took, is) = (front, took, cc (append_assoc front rest more))
@@ -54,7 +54,7 @@ pub when_ok : {T E : Type 0} {P Q : Type 0} (r : Result T E) → (P → Q) → O
 when_ok (Ok done) f p = f p
 when_ok (Err e) f p = tt
 
--- of texts one behind another the sink took some, and of the next one a prefix
+-- of texts one behind another the sink accepted some, and of the next one a prefix
 pub each_front : {X : Type 0} (old mid new : Option (List ℕ)) (f : X → List ℕ) (xs : List X) (at : ℕ) (x : X) {t : List ℕ} → at < length xs
     → x ≡ get_or xs at x → t ≡ f x
     → Appends old mid (flat_map f (take at xs)) → TookFront mid new t → TookFront old new (flat_map f xs)

@@ -9,7 +9,7 @@ ghost use Rattle.bfd_replay.specs.Written.{TookFront};
 
 use crate::counting::Replayed;
 use crate::stream::report_to;
-use crate::worker::replay_at_once;
+use crate::worker::replay_by_workers;
 use bfd_edge::{Fault, Gate, Sink};
 use bfd_script::Script;
 use bfd_wheel::Timers;
@@ -45,6 +45,6 @@ pub fn replay_to<W: Timers + Send + 'static, R: Threads + Wait + Sync, G: Gate +
     if workers == 1 {
         report_to(rt, alloc, script, shards, gate, sink)
     } else {
-        replay_at_once(rt, alloc, script, shards, workers, gate, sink)
+        replay_by_workers(rt, alloc, script, shards, workers, gate, sink)
     }
 }

@@ -2,8 +2,8 @@
 //!
 //! An engine is opened for the script, and each line is a turn of its shard, or a tick of all shards, in the caller's thread, in the order
 //! of the file: [`happen`] finds what the line is and does it. What it gave is appended to a text as the lines of a report, and a text of
-//! 64 KiB goes to the sink and begins anew. So no more of the report is held than that and the lines of one event. `report_to` is all of
-//! it.
+//! 64 KiB goes to the sink, and a new one begins. So no more of the report is held than that and the lines of one event. `report_to` is all
+//! of it.
 //!
 //! Modules: `opening` opens the engine of a script, `turning` is one line, which a watch uses too, `ticking` a tick of several shards,
 //! whose parts are put together, `telling` the text and the counts so far, `reporting` the whole.

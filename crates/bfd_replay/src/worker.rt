@@ -3,7 +3,7 @@
 //! The lines of a script are planned: each shard has a queue of its events, and what matches no session is reported separately. The
 //! sessions stand in an engine of 1 to 64 shards, which are made alongside. Each of 2 to 64 workers has a pass of the engine and shards of
 //! its own, in a thread of its own if one is available; what each shard's events give is reported in a part, and the parts are gathered
-//! into one report. `replay_at_once` writes it to a sink.
+//! into one report. `replay_by_workers` writes it to a sink.
 //!
 //! Modules: `beginning` makes shards and plan in parallel, `working` is one worker's turns, `jobs` all workers,
 //! `passes` their passes, `running` the engine from opening to closing, `finish` puts the parts in order, `replaying` is all of it.
@@ -22,4 +22,4 @@ mod replaying;
 mod running;
 mod working;
 
-pub(crate) use replaying::replay_at_once;
+pub(crate) use replaying::replay_by_workers;

@@ -1,4 +1,4 @@
--- What was put out before an event's rules: it stays in front of what they put out, and what is true of each output stays true.
+-- What was emitted before an event's rules stays ahead of what they emit, and what is true of each output stays true.
 use Rattle.std.proofs.Common.{◌≡◌, ◌++◌, ℕ, Bool, true, false, List, [], ◌∷◌, refl, append_assoc, append-nil, if◌then◌else◌}
 use Rattle.std.specs.List.{AllByRecursion}
 use Rattle.bfd_packet.specs.declared.arrival.Datagram.{Datagram}
@@ -20,12 +20,12 @@ pub either : (os : List Out) (b : Bool) (x y x' y' : Course) → x' ≡ after os
 either os true x y x' y' hx hy = hx
 either os false x y x' y' hx hy = hy
 
--- a change of state is told behind what was put out before
+-- a change of state is reported behind what was emitted before
 pub changes-after : (discr : ℕ) (v : Vars) (os : List Out) (s : Course) → changes discr v (after os s) ≡ after os (changes discr v s)
 unfolding changes
 changes-after discr v os s = rw append_assoc refl
 
--- a datagram is sent behind what was put out before
+-- a datagram is sent behind what was emitted before
 pub sends-after : (discr : ℕ) (datagram : Datagram) (os : List Out) (s : Course)
     → sends discr datagram (after os s) ≡ after os (sends discr datagram s)
 unfolding sends
@@ -55,7 +55,7 @@ pub chosen_names : (P : Out → Type 0) (b : Bool) (x y : Course) → AllByRecur
 chosen_names P true x y hx hy = hx
 chosen_names P false x y hx hy = hy
 
--- a change of state names the discriminator, where anything is told of it
+-- a change of state names the discriminator, if anything is reported of it
 pub changes_names : (discr : ℕ) (P : Out → Type 0) (v : Vars) (s : Course) → OfOwn discr P → AllByRecursion P s.outs
     → AllByRecursion P (changes discr v s).outs
 unfolding changes

@@ -29,7 +29,7 @@ is_there : (o : Option ℕ) → is_none o ≡ false → IsSome o
 is_there None h = cc
 is_there (Some x) h = refl
 
--- a due tick that isn't drawn anew is there
+-- a due tick that isn't redrawn is present
 pub stands_there : (m : Mark) (v : Vars) → draws m v ≡ false → IsSome v.tx_due
 stands_there m v h =
     let outer = or_parts (m.moved || is_none v.tx_due || not (tx_interval v == m.interval)) (one_changed m v) h in

@@ -24,7 +24,7 @@ drawn_heard active m v = by (may_send active v) (draws m v)
     by true false = refl
     by false _ = refl
 
--- what was there and is kept but for one case is gone exactly in that case
+-- what was present and is kept but for one case is gone exactly in that case
 pub exactly : (b : Bool) (heard after : Option ℕ) → after ≡ (if b then None else heard) → IsSome heard → (after ≡ None) ↔ (b ≡ true)
 exactly true heard after is there = (λ _. refl, λ _. is)
 exactly false None after is there = cc

@@ -54,6 +54,6 @@ unfolding drawn
 drawn_by active v true is due = rw (is, draw_stands v (due.1 is)) refl
 drawn_by active v false is due = rw is (ap (λ o. record v { tx_due = o }) (sym (gone v.tx_due due is)))
 
--- the due tick stands that is there exactly while packets may be sent
+-- a due tick stands if it is present exactly while packets may be sent
 pub drawn_stands : (active : Bool) (v : Vars) → (IsSome v.tx_due ↔ IsTrue (may_send active v)) → drawn active (begins v) v ≡ v
 drawn_stands active v due = drawn_by active v (may_send active v) refl due

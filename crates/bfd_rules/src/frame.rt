@@ -108,7 +108,7 @@ pub fn is_untold(active: bool, mark: &Mark, v: &Vars) -> bool
     is_news(mark, v) && !mark.answered && may_send(active, v)
 }
 
-/// The due tick is to be drawn anew.
+/// The due tick is to be redrawn.
 fn draws(mark: &Mark, v: &Vars) -> bool
     ensures { result ≡ frame.draws mark.now v.now }
 {
@@ -116,8 +116,8 @@ fn draws(mark: &Mark, v: &Vars) -> bool
     mark.moved || v.tx_due.is_none() || tx_interval(v) != mark.interval || one_changed
 }
 
-/// Leaves the due tick as an event does: none where periodic packets may not be sent, else as it stands, or drawn
-/// anew where a packet moved the base or what it is drawn by has changed (section 6.8.7).
+/// Leaves the due tick as an event does: none where periodic packets may not be sent, else as it stands, or
+/// redrawn where a packet moved the base or what it is drawn by has changed (section 6.8.7).
 #[tactic(auto, unfolding(crate::specs::EventFrame::drawn))]
 pub fn draw(active: bool, mark: &Mark, v: &mut Vars)
     requires base { v.old.base < moment_bound }

@@ -44,7 +44,7 @@ fn used_renewed(v: &mut Vars)
     v.used_rx = if idle { v.rx } else { v.used_rx.max(v.rx) };
 }
 
-/// A running Poll Sequence begins anew.
+/// A running Poll Sequence restarts.
 fn poll_again(poll: Poll) -> Poll
     ensures { result ≡ again_of poll }
 {
@@ -54,7 +54,7 @@ fn poll_again(poll: Poll) -> Poll
     }
 }
 
-/// Where Demand mode ends here, the Detection Time runs from now on; where it begins here, a poll begins anew.
+/// Where Demand mode ends here, the Detection Time runs from now on; where it begins here, a poll restarts.
 #[tactic(auto, unfolding(crate::specs::Renewal::demand_renewed))]
 fn demand_renewed(eff: u64, before: &Vars, v: &mut Vars)
     requires { eff < moment_bound }
@@ -73,9 +73,9 @@ fn demand_renewed(eff: u64, before: &Vars, v: &mut Vars)
     }
 }
 
-/// Renews the variables `v` that a rule made of the variables `before`, at the effective moment `eff`, in
+/// Renews the variables `v` that a rule made from the variables `before`, at the effective moment `eff`, in
 /// microseconds: a changed interval needs a Poll Sequence (sections 6.5 and 6.8.3), the intervals in use follow, and
-/// where Demand mode begins or ends here the poll or the Detection Time begins anew (section 6.6).
+/// where Demand mode begins or ends here the poll or the Detection Time restarts (section 6.6).
 #[tactic(auto, unfolding(crate::specs::Renewal::renewed))]
 pub fn renew(eff: u64, before: &Vars, v: &mut Vars)
     requires { eff < moment_bound }

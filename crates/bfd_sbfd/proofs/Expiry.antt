@@ -1,4 +1,4 @@
--- A tick forgets the last answer exactly where the deadline has come by its limit.
+-- A tick forgets the last answer exactly when the deadline has come by its limit.
 use Rattle.bfd_sbfd.proofs.Common.{◌≡◌, ◌&&◌, ◌↔◌, ◌∙◌, ℕ, Bool, true, false, refl, None, IsSome, if◌then◌else◌, floor_tick, has_come}
 use Rattle.bfd_sbfd.proofs.Common.{may_send, Course, changes, sends, is_untold, redrawn, SeekConfig, deadline, moves, transmits}
 use Rattle.bfd_rules.proofs.Heard.{alike, drawn_heard, exactly}
@@ -41,7 +41,7 @@ pub tick_heard : (c : SeekConfig) (limit eff : ℕ) (s : Course)
     ≡ (if has_come limit (deadline s.vars) then None else s.vars.heard)
 tick_heard c limit eff s = finish_heard c eff (settling.settle c limit eff s) ∙ settle_heard c limit eff s
 
--- one that was there is gone exactly where the deadline has come by the limit
+-- one that was present is gone if and only if the deadline has come by the limit
 pub expires : (c : SeekConfig) (limit eff : ℕ) (s : Course) → IsSome s.vars.heard
     → ((finishing.finish c eff (settling.settle c limit eff s)).vars.heard ≡ None) ↔ (has_come limit (deadline s.vars) ≡ true)
 expires c limit eff s there = exactly (has_come limit (deadline s.vars)) s.vars.heard _ (tick_heard c limit eff s) there

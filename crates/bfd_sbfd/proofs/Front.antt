@@ -1,4 +1,4 @@
--- What was put out before stays in front of what an initiator's rules put out, and changes nothing else of them.
+-- What was emitted before stays ahead of what an initiator's rules emit, and changes nothing else of them.
 use Rattle.bfd_sbfd.proofs.Common.{◌≡◌, ◌&&◌, ℕ, true, List, refl, is_some, Control, fields_of, floor_tick, has_come, Cmd, Out, Vars}
 use Rattle.bfd_sbfd.proofs.Common.{may_send, is_admin_down, Course, is_untold, based, redrawn, SeekConfig, deadline, moves, transmits}
 use Rattle.bfd_sbfd.proofs.Common.{refusal, commanded, done, after, either, changes-after, sends-after}

@@ -66,7 +66,7 @@ none_behind p zero text e = e
 none_behind p (suc n) [] e = refl
 none_behind p (suc n) (byte ∷ text) e = none_behind p n text (none_step (p byte) _ _ e)
 
--- neither the front of a text nor its end has one, and they are all of it
+-- neither this prefix of a text nor this suffix has one, and they are all of it
 pub in_neither : (byte : ℕ) (text : List ℕ) {run : List ℕ} → 32 ≤ length text → length text ≤ 64 → run ≡ take 32 text
     → 32 ≤ position_or_len (λ other. other == byte) run → 32 ≤ position_or_len (λ other. other == byte) (drop (length text - 32) text)
     → length text ≡ position_or_len (λ other. other == byte) text

@@ -3,7 +3,7 @@ use Rattle.bfd_script.proofs.Common.{◌==◌, ◌<◌, ◌≤◌, ◌+◌, None
 use Rattle.bfd_script.proofs.Common.{SessionConfig, discr_of, table_of, IsElsewhere, no_fault_with, build_fault, has_discr, IsReflector}
 use Rattle.bfd_script.proofs.Common.{AreApart, AreConfigs, ArePool}
 
--- no reflector has a session's discriminator, told for the sessions
+-- no reflector has a session's discriminator, stated for the sessions
 
 first_apart : (c : SessionConfig) (cs : List SessionConfig) (pool : List Reflector) → AreApart (c ∷ cs) pool → IsElsewhere pool c
 first_apart c cs [] apart = tt

@@ -11,7 +11,7 @@ in_line byte = not (byte == 10)
 abbrev line_length : List ℕ → ℕ
 line_length text = prefix_len in_line text
 
--- one more byte in front of a text whose first line is known
+-- one more byte before a text whose first line is known
 one_more : (ends : Bool) (byte : ℕ) (bytes : List ℕ)
     → (0 < length bytes → lines_of bytes ≡ take (line_length bytes) bytes ∷ lines_of (drop (line_length bytes + 1) bytes))
     → cond ends ([] ∷ lines_of bytes) (onto_line byte (lines_of bytes)) ≡ take (cond (not ends) (1 + line_length bytes) 0) (byte ∷ bytes)

@@ -1,4 +1,4 @@
--- One more session in a table, or other keys for one: the sessions that events name are there still.
+-- One more session in a table, or other keys for one: the sessions that events name are still present.
 use Rattle.bfd_script.proofs.Common.{◌≡◌, ℕ, ◌+◌, ◌<◌, ◌==◌, Bool, true, false, ◌||◌, List, length, nat_le, refl, ◌∙◌, arith, nat_tests}
 use Rattle.bfd_script.proofs.Common.{or_right, or_parts, SessionConfig, discr_of, is_named, changed, has_discr, inserted, Reflector}
 use Rattle.bfd_script.proofs.Common.{has_reflector, reflector_discr, pooled, AreApart, AreNamed, IsReading}

@@ -229,7 +229,7 @@ anywhere : (i j : ℕ) (xs : List ℕ) {bytes : List ℕ} → decode_pairs i xs 
 unfolding decode_pairs
 anywhere i j xs {bytes} e = cc (append-nil xs, appended i j xs [] [] e (λ k. refl), append-nil bytes)
 
--- one run more is decoded
+-- one more run is decoded
 pub run_more : (digits rest : List ℕ) {run after front : List ℕ} (done : List ℕ) {next : List ℕ} → run ≡ take 16 rest → after ≡ drop 16 rest
     → ((i : ℕ) → decode_pairs i run ≡ Ok front) → next ≡ done ++ front
     → ((more : List ℕ) → ((i : ℕ) → decode_pairs i rest ≡ Ok more) → decode_pairs 0 digits ≡ Ok (done ++ more))

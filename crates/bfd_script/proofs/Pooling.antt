@@ -1,4 +1,4 @@
--- One more reflector in a pool, and a pool beside a table of sessions.
+-- One more reflector in a pool, and a pool alongside a table of sessions.
 use Rattle.bfd_script.proofs.Common.{◌≡◌, ℕ, ◌<◌, ◌==◌, Bool, true, false, ◌||◌, cond, List, [], ◌∷◌, refl, ap, ◌∙◌, arith, nat_lt}
 use Rattle.bfd_script.proofs.Common.{nat_tests, is_some, values_of, lookup, is_at, insert_entry, nat_cmp, or_parts, or_from, ltb-true}
 use Rattle.bfd_script.proofs.Common.{Reflector, SessionConfig, discr_of, has_discr, has_reflector, inserted, reflector_discr, pool_by_discr}
@@ -47,7 +47,7 @@ pool_more {r} {entries} were view none row e =
     } in
     record { keyed = cc; reflectors = rw m.1 now }
 
--- ---- beside the sessions
+-- ---- alongside the sessions
 
 turned_apart : (a b : ℕ) → (a == b) ≡ false → (b == a) ≡ false
 turned_apart a b h = grind (arith, nat_tests)

@@ -67,7 +67,7 @@ end_passed line {rest} is short within all =
       behind (length line - length rest - (length line - 32)) (drop (length line - 32) line) all,
     )
 
--- what is left behind one run more
+-- what is left behind one more run
 pub left_more : (line : List ℕ) {rest after : List ℕ} → rest ≡ drop (length line - length rest) line → length rest ≤ length line
     → after ≡ drop 32 rest → length after + 32 ≡ length rest
     → after ≡ drop (length line - length after) line

@@ -180,7 +180,7 @@ module _ {L : Type 0} (told : L → LinkTold) (engine : Shards) (l : Knows) (own
       (All-cons IsUnspent served.timer_end served.worker_ends timer_end_is.0
       (λ i x inner. (worker_ran i own x 0 (let e = served.ends_long in omega (arith, e, inner))).0))
 
--- one element more of a list
+-- one more element of a list
 pub one_more : {X : Type 0} (P : X → Type 0) (xs : List X) (at : ℕ) (x : X) → at < length xs → x ≡ get_or xs at x → P x
     → ((k : ℕ) (d : X) → k < at → P (get_or xs k d)) → (k : ℕ) (d : X) → k < at + 1 → P (get_or xs k d)
 one_more P xs at x inside is here before k d h = dite (dec_lt k at) (λ less. before k d less)

@@ -7,7 +7,7 @@ use Rattle.bfd_shard.proofs.Sharing.{all_share, share_next, share_nothing}
 use Rattle.bfd_serve.proofs.Closings.{there_is}
 
 module _ {A : Type 0} where
-  -- one element more of a share
+  -- one more element of a share
   pub share_more : (n c at next : ℕ) (xs part more : List A) (x : A) → 0 < n → at < length xs → next ≡ at + n → x ≡ get_or xs at x
       → more ≡ part ++ x ∷ []
       → part ++ share n 0 (drop at xs) ≡ share n c xs → more ++ share n 0 (drop next xs) ≡ share n c xs
@@ -28,7 +28,7 @@ own_share {k} {states} d locks same closed inside =
       (closed.each k x.0 x.1).configs,
     ))
 
--- the parts are what the shards were made of
+-- the parts are what the shards were built from
 pub parts_are : {engine : Shards} {shards : ℕ} {configs : List SessionConfig} {parts : List (List SessionConfig)} {states : List Shard}
     → length engine.locks ≡ shards → engine.configs ≡ configs → AreDealt shards shards configs parts → AreClosedShards engine states
     → parts ≡ map (λ state. configs_of state.sessions) states

@@ -213,7 +213,7 @@ module _ (engine : Shards) where
   aside_then : {t u v : LinkTold} → IsAside t u → IsAside u v → IsAside t v
   aside_then p q = record { over = cc; receive_faults = cc; gave = cc }
 
-  -- sending tells nothing of receiving
+  -- sending changes nothing that is observed of receiving
   aside_sent : {packets untried : List Datagram} {u v : LinkTold} {a b : ℕ} → HasSent packets untried u v a b → IsAside u v
   aside_sent s = record {
     over = ap (λ x. x.counts.over) s.told;

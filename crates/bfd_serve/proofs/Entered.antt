@@ -198,7 +198,7 @@ module _ (engine : Shards) (states : List Shard) (orders : List Line) (workers :
         all_at (EntryFits engine) seen rest (entry_of caller (Own place moment (Packet arrival)))
         (subst (AllByRecursion (EntryFits engine)) h (history_fits engine (history_at states number) (λ n. own_fits n inside)))
 
-    -- the session of an own event takes it
+    -- the session of an own event accepts it
     own_taken : (number caller place moment : ℕ) (event : Event) (seen rest : List Entry)
         → history_at states number ≡ seen ++ entry_of caller (Own place moment event) ∷ rest
         → (number < length engine.locks) × IsTaken (configs_at engine number) place event

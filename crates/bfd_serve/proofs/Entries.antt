@@ -1,4 +1,4 @@
--- One entry more.
+-- One more entry.
 use Rattle.bfd_serve.proofs.ServedTextCommon.{◌≡◌, ◌≤◌, ◌<◌, ℕ, zero, suc, ◌+◌, List, [], ◌∷◌, ◌++◌, length, take, drop, get_or, ap}
 use Rattle.bfd_serve.proofs.ServedTextCommon.{append_assoc, append-nil, length-append, arith, take_more, drop_more, SessionConfig, Entry}
 use Rattle.bfd_serve.proofs.ServedTextCommon.{CanHappen, IsHistory, event_lines, packets_sent, discr_in, entry_text, entries_text}

@@ -14,7 +14,7 @@ until_more_by n (suc i) x h more true is less rec =
 until_more_by n i x h more false is less rec = rw is
     (cc (rec i (subst (λ b. i < length (cond b (x ∷ calls by n h) (calls by n h))) is less)))
 
--- an entry that is there is found at the same place in a longer history
+-- an entry that is present is found at the same place in a longer history
 until_more : (n : ℕ) {i : ℕ} (h more : List Entry) → i < length (calls by n h) → until n i (h ++ more) ≡ until n i h
 until_more n [] more less = absurd (omega arith)
 until_more n {i} (x ∷ h) more less = until_more_by n i x h more (x.caller == n) refl less (λ j l. until_more n h more l)
@@ -87,7 +87,7 @@ module _ (engine : Shards) (n : ℕ) where
         ap length (entries_append n s before2 (calls_of (x ∷ []))) ∙ length-append (entries n s before2) (entries n s (calls_of (x ∷ []))),
       )))
 
-  -- as many calls are there on each shard
+  -- each shard has as many calls
   abbrev pub AreThere : (ℕ → List Entry) → (ℕ → ℕ) → List Call → Type 0
   AreThere h had cs = (s : ℕ) → had s + length (entries n s cs) ≤ length (calls by n (h s))
 
@@ -105,7 +105,7 @@ module _ (engine : Shards) (n : ℕ) where
       let less : had shard + length (entries n shard before) < length (calls by n (h shard)) = omega arith in
       cc ((grows shard).1, until_more n (h shard) (grows shard).0 less)
 
-  -- where each history only grows, the calls that are there send what they did
+  -- if each history only grows, the calls that are present send what they did
   pub sends_grow : (h : ℕ → List Entry) {h2 : ℕ → List Entry} (had : ℕ → ℕ) (before : List Call) (xs : List Act)
       → ((s : ℕ) → Begins (h s) (h2 s))
       → AreThere h had (before ++ calls_of xs) → sends_of_acts engine n h2 had before xs ≡ sends_of_acts engine n h had before xs

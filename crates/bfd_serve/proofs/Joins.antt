@@ -1,4 +1,4 @@
--- One pass more is taken in.
+-- One more pass is joined.
 use Rattle.bfd_serve.proofs.Common.{◌≡◌, ◌<◌, ◌≤◌, ◌++◌, length, get_or, Some, refl, sym, append_assoc, append-nil, le_refl, arith}
 use Rattle.bfd_serve.proofs.Common.{All-push, All-pop, All-nil, sum_by-append, Begins, begins_itself, begins_through, longer_begins, Shards}
 use Rattle.bfd_serve.proofs.Common.{Knows, IsOf, AllThere, seen_at, met_word, taken_at, kept_at, mine, calls_kept, AreJoined, ℕ, List, []}

@@ -1,4 +1,4 @@
--- What is to be done at one tick more.
+-- What is to be done at one more tick.
 use Rattle.bfd_serve.proofs.Common.{◌≡◌, zero, suc, ◌+◌, ◌<◌, ◌≤◌, true, false, ◌++◌, length, take, drop, get_or, refl, ap, ◌∙◌}
 use Rattle.bfd_serve.proofs.Common.{append_assoc, append-nil, arith, take_more, take-append-drop, Line, Shards, Act, Turns, is_due}
 use Rattle.bfd_serve.proofs.Common.{orders_due, order_act, orders_acts, advances, tick_acts, ticks_acts, orders_left, ℕ, List, [], ◌∷◌}
@@ -44,7 +44,7 @@ module _ (engine : Shards) where
   orders_append [] ys = refl
   orders_append (x ∷ xs) ys = cc (orders_append xs ys)
 
-  -- one order more
+  -- one more order
   pub orders_next : (orders : List Line) {i : ℕ} (order : Line) → i < length orders → get_or orders i order ≡ order
       → orders_acts engine (take (i + 1) orders) ≡ orders_acts engine (take i orders) ++ order_act engine order ∷ []
   orders_next orders {i} order h here = cc (take_more orders i order h, orders_append (take i orders) (get_or orders i order ∷ []))

@@ -1,4 +1,4 @@
--- What a link tells after several sends.
+-- What is observed of a link after several sends.
 use Rattle.bfd_serve.proofs.Common.{◌≡◌, zero, suc, length-append, ◌+◌, ◌<◌, ◌≤◌, ◌++◌, take, take_all, drop, length, slice_index_or}
 use Rattle.bfd_serve.proofs.Common.{Option, Some, None, Ok, Err, refl, ap, ap₂, sym, ◌∙◌, subst, inl, inr, append_assoc, append-nil, arith}
 use Rattle.bfd_serve.proofs.Common.{take_more, take-append-drop, filter_map-append, Arrival, Datagram, risen, Traffic, LinkTold}
@@ -66,7 +66,7 @@ sent_failed d t u lost after is up = record {
   lost_is = up;
 }
 
--- running out of memory leaves what a link tells
+-- running out of memory leaves what is observed of a link
 pub unsent : (d : Datagram) (t u : LinkTold) → u ≡ after_send d (Err fault.Memory) t → u ≡ t
 unsent d t u is = is ∙ ap (λ a. record t { traffic = a }) (traffic_same t.traffic)
 
@@ -101,7 +101,7 @@ sent_stopped rest s = record {
   lost_is = s.lost_is;
 }
 
--- after one output more
+-- after one more output
 pub sent_upto : (outs : List Out) {i : ℕ} (d : Out) {t u v : LinkTold} {a b c : ℕ} → i < length outs
     → HasSent (datagrams (take i outs)) [] t u a b → HasSent (datagrams (slice_index_or outs i d ∷ [])) [] u v b c
     → HasSent (datagrams (take (i + 1) outs)) [] t v a c

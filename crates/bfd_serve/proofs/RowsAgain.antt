@@ -308,7 +308,7 @@ row_fields_fit (Seek c) fit row = seek_fields fit row
 row_fields_fit (Head c) fit row = head_fields fit row
 row_fields_fit (Tail c) fit row = tail_fields fit row
 
--- the row tells of no keys
+-- the row says nothing of keys
 pub row_again : (version : Version) (live : Bool) (c : SessionConfig) → IsFit c → IsRow c
     → entry_in_line version places.Table live (spaced (row_fields c) []) ≡ Ok (entries.Row (bare c))
 row_again version live (Pair c) fit row =

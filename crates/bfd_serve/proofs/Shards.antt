@@ -1,4 +1,4 @@
--- One shard more.
+-- One more shard.
 use Rattle.bfd_serve.proofs.ServedTextCommon.{◌≡◌, ◌<◌, ℕ, ◌+◌, List, [], ◌∷◌, ◌++◌, length, map, drop, get_or, ap, subst, append_assoc}
 use Rattle.bfd_serve.proofs.ServedTextCommon.{append-nil, length-drop, arith, sum_by, AllByRecursion, drop_more, length-map}
 use Rattle.bfd_serve.proofs.ServedTextCommon.{nil_from_length, SessionConfig, configs_of, Shard, History, shard_history, shard_sent}

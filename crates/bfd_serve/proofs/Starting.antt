@@ -1,4 +1,4 @@
--- A shard made anew.
+-- A rebuilt shard.
 use Rattle.bfd_serve.proofs.ServedTextCommon.{◌≡◌, ℕ, List, [], ◌++◌, append_assoc, SessionConfig, Entry, IsHistory, entries_text}
 use Rattle.bfd_serve.proofs.ServedTextCommon.{shard_line, events_of}
 

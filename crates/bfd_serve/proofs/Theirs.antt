@@ -19,7 +19,7 @@ module _ {L : Type 0} (told : L → LinkTold) {own : L} where
       at zero h = is
       at (suc n) h = absurd (omega arith)
 
-  -- one link more
+  -- one more link
   pub theirs_more : (links : List L) (link : L) → AreTheirs told own links → (told link).number ≡ length links + 1
       → AreTheirs told own (links ++ link ∷ [])
   theirs_more links link theirs is = record { at = at }
@@ -41,7 +41,7 @@ module _ {L : Type 0} (told : L → LinkTold) {own : L} where
       ap (λ x. (told x).number) (sym (get_or-append_seam gone link rest own) ∙ ap (λ xs. get_or xs (length gone) own) all)
       ∙ (theirs.at (suc (length gone)) inside ∙ (e ∙ sym is))
 
-  -- the same links, where the first one tells the same
+  -- the same links, if the same is observed of the first one
   pub theirs_same : {own2 : L} (links back : List L) → told own2 ≡ told own → back ≡ links → AreTheirs told own links
       → AreTheirs told own2 back
   theirs_same {own2} links back told_same same theirs = record { at = at }
@@ -68,7 +68,7 @@ module _ {L : Type 0} (told : L → LinkTold) {own : L} where
           ap (λ x. (told x).number) (get_or_default back m own2 own (omega (arith, h)))
           ∙ (worker.worked.did.same_link ∙ theirs.at (suc m) inside)
 
-  -- one link more is shut
+  -- one more link is shut
   pub shut_more : (gone : List L) (link : L) {number : ℕ} {p q : PortsTold} → q ≡ after_shut number (told link) p → number ≡ length gone + 1
       → ((n : ℕ) → n ≤ length gone → p.shut n ≡ Some (told (get_or (own ∷ gone) n own)))
       → (n : ℕ) → n ≤ length (gone ++ link ∷ []) → q.shut n ≡ Some (told (get_or (own ∷ (gone ++ link ∷ [])) n own))

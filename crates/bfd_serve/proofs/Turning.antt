@@ -23,13 +23,13 @@ module _ (engine : Shards) where
     few = le_refl 0;
   }
 
-  -- the lists that a step leaves, written as they are wanted
+  -- the lists that a step leaves, written as they are needed
   did_as : {k l : Knows} {t u : LinkTold} {hs hs2 : List (ℕ × Arrival)} {xs xs2 cut : List Act} {untried : List Datagram} {a b : ℕ}
       → hs ≡ hs2 → xs ≡ xs2 → Did engine k l t u hs xs cut untried a b → Did engine k l t u hs2 xs2 cut untried a b
   did_as {k} {l} {t} {u} {cut} {untried} {a} {b} p q d =
       subst (λ (y : List (ℕ × Arrival) × List Act). Did engine k l t u y.0 y.1 cut untried a b) (λ i. (p i, q i)) d
 
-  -- the link told more, of receiving alone
+  -- more is observed of the link, of receiving alone
   did_told : {k l : Knows} {t u : LinkTold} (v : LinkTold) {hs : List (ℕ × Arrival)} {xs : List Act} {a b : ℕ} → v.traffic ≡ u.traffic
       → v.counts.send_faults ≡ u.counts.send_faults → v.number ≡ u.number → Did engine k l t u hs xs [] [] a b
       → Did engine k l t v hs xs [] [] a b

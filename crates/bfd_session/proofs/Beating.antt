@@ -1,4 +1,4 @@
--- A tick by which a periodic packet is due and nothing else is that packet, where no Echo function is wanted and none runs.
+-- A tick by which a periodic packet is due and nothing else is that packet, if no Echo function is needed and none runs.
 use Rattle.bfd_session.proofs.Common.{◌≡◌, ℕ, refl, None, List, Config, Vars, Mark, course, begins, Machine, Pair}
 use Rattle.bfd_session.proofs.Common.{flow, pair_of, IsEchoOver, tick, begun, Out}
 use Rattle.bfd_rules.specs.EventFrame.{tells}

@@ -1,4 +1,4 @@
--- A session or a reflector more or less: the order, and the rows.
+-- One more session or reflector, or one less: the order, and the rows.
 use Rattle.bfd_session.proofs.Common.{◌≡◌, ◌<◌, ◌≤◌, ◌==◌, ◌++◌, ◌+◌, ◌-◌, ◌||◌, ℕ, zero, suc, Bool, true, false, cond, not, List, [], ◌∷◌}
 use Rattle.bfd_session.proofs.Common.{length, map, get_or, refl, sym, ap, subst, ◌∙◌, arith, None, Some, if◌then◌else◌, nat_lt, unwrap_or}
 use Rattle.bfd_session.proofs.Common.{AllByRecursion, filter, position, position_from, ne_eqb, nat_tests, Row, SessionConfig, discr_of}

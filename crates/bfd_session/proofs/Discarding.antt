@@ -1,4 +1,4 @@
--- The one list of tests that may discard an arrival is the table's and then the session's, and a session's verdict tells of
+-- The one list of tests that may discard an arrival is the table's and then the session's, and a session's verdict names
 -- the first of its own that fails.
 use Rattle.bfd_session.proofs.Common.{◌≡◌, ◌||◌, ◌++◌, ◌∷◌, not, ℕ, Bool, true, false, List, [], refl, sym, ap, ◌∙◌, Option, None, Some}
 use Rattle.bfd_session.proofs.Common.{Result, cond, if◌then◌else◌, take, find, and_parts, list_all, Arrival, Port, State, Test, Ttl}

@@ -1,4 +1,4 @@
--- A tick forgets that a packet was heard exactly where the Detection Time has expired.
+-- A tick forgets that a packet was heard exactly when the Detection Time has expired.
 use Rattle.bfd_session.proofs.Common.{◌≡◌, ◌+◌, ◌-◌, ◌==◌, ◌||◌, ◌&&◌, ℕ, Bool, true, false, refl, ◌∙◌, Option, None, Some, is_none, IsSome}
 use Rattle.bfd_session.proofs.Common.{[], arith, if◌then◌else◌, common_steps, Down, Up, floor_tick, has_come, Config, Vars, deadline}
 use Rattle.bfd_session.proofs.Common.{seq_deadline, is_up, demand_here, may_send, poll_again, poll_renewed, used_renewed, demand_renewed}

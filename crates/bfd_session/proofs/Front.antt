@@ -1,4 +1,4 @@
--- What was put out before an event stays in front of what the event puts out, and changes nothing else of it; and an event
+-- What was emitted before an event stays ahead of what the event emits, and changes nothing else of it; and an event
 -- of a session of another kind than a point-to-point one leaves the Echo function.
 use Rattle.bfd_session.proofs.Common.{◌≡◌, ◌++◌, ◌&&◌, ℕ, Bool, true, false, List, [], refl, ap, append-nil, Option, None, Some, is_some}
 use Rattle.bfd_session.proofs.Common.{Result, Ok, Err, Control, Test, SeqState, Cmd, Config, Vars, floor_tick, has_come, may_send, deadline}
@@ -231,7 +231,7 @@ pub tick_outs : (s : Running) (limit eff : ℕ) (os : List Out) → (tick_from l
 unfolding tick_emits
 tick_outs s limit eff os = ap (λ f. f.course.outs) (tick-from s limit eff os)
 
--- the reply is that of the event after settling, whatever was put out before
+-- the reply is that of the event after settling, whatever was emitted before
 
 answer_of-after : (c : SessionConfig) (event : Event) (os : List Out) (f : Flow) → answer_of c event (ahead os f) ≡ answer_of c event f
 answer_of-after c (Packet arrival) os f = refl

@@ -1,4 +1,4 @@
--- The reflector that a packet names stands at the place that selection tells.
+-- The reflector that a packet names stands at the place that selection gives.
 use Rattle.bfd_session.proofs.Common.{◌≡◌, ◌<◌, ◌==◌, ℕ, zero, suc, Bool, true, false, List, [], ◌∷◌, map, refl, sym, ap, ◌∙◌, subst, arith}
 use Rattle.bfd_session.proofs.Common.{None, Some, if◌then◌else◌, slice_get, find, AllByRecursion, nat_tests, eq-eqb, ne_eqb, first_failing}
 use Rattle.bfd_session.proofs.Common.{Arrival, Row, names_on, reflector_index, SessionConfig, row_of_reflector, table_of, Reflector}

@@ -1,4 +1,4 @@
--- A packet that tells a point-to-point session in Up nothing new is the whole event, where no Echo function is wanted and none runs.
+-- A packet with nothing new for a point-to-point session in Up is the whole event, if no Echo function is needed and none runs.
 use Rattle.bfd_session.proofs.Common.{◌≡◌, ◌&&◌, ℕ, Bool, true, false, refl, None, Some, List, Config, Vars, Course, course, begins, is_up}
 use Rattle.bfd_session.proofs.Common.{is_single, Machine, Arrival, Pair, Packet, flow, pair_of, should_echo, settles_echo, turns_echo, step}
 use Rattle.bfd_session.proofs.Common.{begun, reply_from, Out}

@@ -1,4 +1,4 @@
--- A tick by which nothing is due leaves sound variables as they are, and puts nothing out.
+-- A tick by which nothing is due leaves sound variables as they are, and emits nothing.
 use Rattle.bfd_session.proofs.Common.{◌≡◌, ◌*◌, ◌++◌, append-nil, ℕ, Bool, true, false, refl, ap, ◌∙◌, Option, None, Some, IsSome, IsTrue}
 use Rattle.bfd_session.proofs.Common.{◌↔◌, List, [], if◌then◌else◌, leb-false, has_come, sooner, Config, Vars, deadline, seq_deadline, Echo}
 use Rattle.bfd_session.proofs.Common.{SessionConfig, Pair, Running, Flow, due, due_by, tick_of, should_echo, echoing, interval_of, echo_due}
@@ -26,7 +26,7 @@ settles_echo_rests : (c : Config) (t eff : ℕ) (f : Flow) → has_come t (echo_
 unfolding settles_echo
 settles_echo_rests c t eff f later = running_rests c t eff (echoing c f.course.vars f.echo) f later
 
--- one that runs exactly where it should goes on
+-- one that runs exactly when it should goes on
 
 goes_on_by : (eff next : ℕ) (should : Bool) (echo : Option Echo) → (IsSome echo ↔ IsTrue should)
     → (if should then Some (goes_on eff next echo) else None) ≡ echo

@@ -96,7 +96,7 @@ sits p n {k} (c ∷ cs) e = by (p c) e (λ f. sits p (n + 1) cs f)
     by false f later = let s : Sits cs (n + 1) k = later f in
         record { place = suc s.place; config = s.config; is = omega (arith, s.is); there = s.there }
 
--- what every session takes, the one with the discriminator takes
+-- what every session accepts, the one with the discriminator accepts
 pub stands : (cs : List SessionConfig) (discr k : ℕ) (event : Event) → Some k ≡ place_of discr cs → ((c : SessionConfig) → CanTake c event)
     → IsTaken cs k event
 stands cs discr k event e takes =

@@ -225,7 +225,7 @@ finish_sound : {c : Config} {eff : ℕ} (s : Course) → eff < moment_bound → 
 unfolding finishing.finish redrawn
 finish_sound {c} {eff} s h steady = drawn_sound (finishing.extra c eff s).mark (extra_steady s h steady)
 
--- the Echo function beside the variables: its moments are moments, also while it runs where it shouldn't
+-- the Echo function alongside the variables: its moments are moments, also while it runs when it shouldn't
 
 pub record IsPairSteady (c : Config) (f : Flow) : Type 0 where
   pub vars : IsSteady c f.course.vars
@@ -273,7 +273,7 @@ pub pair_settled_steady : (c : Config) (limit : ℕ) {eff : ℕ} (f : Flow) → 
 pair_settled_steady c limit f h steady = settles_echo_steady limit h
     record { vars = settle_steady limit f.course h steady.vars; moments = steady.moments }
 
--- at the end of an event it runs exactly where it should
+-- at the end of an event it runs exactly when it should
 
 turned_there : (should : Bool) (e : Echo) → IsSome (if should then Some e else None) ↔ IsTrue should
 turned_there true e = (λ h. refl, λ h. refl)

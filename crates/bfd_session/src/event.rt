@@ -1,4 +1,4 @@
-//! What a session is made of, what can happen to it, and what it answers.
+//! What a session is built from, what can happen to it, and what it answers.
 
 use bfd_mp::{HeadConfig, TailConfig};
 use bfd_packet::{Arrival, State, Test};

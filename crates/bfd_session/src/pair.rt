@@ -129,7 +129,7 @@ fn finishes(
     turns_echo(p, echo, next, eff);
 }
 
-/// Whether the event is a packet that tells a session in Up nothing new; then that is all of the event (`P2p::hears_again`), and the packet
+/// Whether the event is a packet with nothing new for a session in Up; then that is all of the event (`P2p::hears_again`), and the packet
 /// was accepted. Else nothing is done.
 #[tactic(auto, using(crate::proofs::Repeated::again_step, crate::proofs::Repeated::again_answer))]
 fn hears_again(p: &mut P2p, echo: &Option<Echo>, eff: u64, event: &Event) -> bool

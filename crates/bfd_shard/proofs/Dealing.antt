@@ -1,11 +1,11 @@
--- A session's own events are all that it is made of.
+-- A session is built from its own events alone.
 use Rattle.bfd_shard.proofs.Common.{◌≡◌, ◌≢◌, ◌⊎◌, inl, inr, ℕ, ◌/◌, ◌%◌, Bool, true, false, List, [], ◌∷◌, Some, None, refl, ap, sym, ◌∙◌}
 use Rattle.bfd_shard.proofs.Common.{max, if◌then◌else◌, ◌==◌, cons_option, cases_eq, eq-eqb, ne_eqb, eqb-true, eqb-false, SessionConfig}
 use Rattle.bfd_shard.proofs.Common.{Event, stepped, ticked, Running, started, ShardEvent, Own, Tick, last_from, last_tick, run_from, run}
 use Rattle.bfd_shard.proofs.Common.{div-add-mod'}
 use Rattle.bfd_shard.specs.Dealing.{own_events, history_of}
 
--- a session is made of its own events
+-- a session is built from its own events
 
 own_first : (p q m last : ℕ) (ev : Event) (es : List ShardEvent) (s : Running) (b : Bool)
     → ((t : Running) → run_from p last es t ≡ run_from 0 last (own_events p es) t)

@@ -12,7 +12,7 @@ pub record Expires : Type 0 where
       ≡ (is_none s.vars.heard || has_come limit (detects s))
   pub heard : (s : Running) → IsSound s → IsSome (detects s) → IsSome s.vars.heard
 
--- what was heard is forgotten where the deadline has come, which is there only where something was heard
+-- what was heard is forgotten when the deadline has come, which is present only if something was heard
 forgot : (o d : Option ℕ) (limit : ℕ) {none : Bool} → none ≡ (is_none o || has_come limit d) → (IsSome d → IsSome o)
     → (is_some o && none) ≡ has_come limit d
 forgot (Some h) d limit is there = is

@@ -61,7 +61,7 @@ over_at {shard} {after} t s m over is =
     cc (runs_more es (Tick t) cs) in
     rw (← last) (rw (← new) none)
 
--- one event more of a shard
+-- one more event of a shard
 pub on_time : IsLaw → {shard : Shard} (event : ShardEvent) {after : List Running} → IsShard shard
     → after ≡ moved shard.last event shard.sessions
     → IsOver (later shard.last event) event after → IsOnTime (configs_of shard.sessions) (events_of shard.journal ++ event ∷ [])

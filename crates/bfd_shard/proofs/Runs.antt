@@ -100,7 +100,7 @@ unfolding moved
 moved_configs last (Own q m ev) ss = own_configs (slice_get ss q) ss q m last ev refl
 moved_configs last (Tick t) ss = ticked_configs (max last t) ss
 
--- one event more of a history is an event of the sessions that it left
+-- one more event of a history is an event of the sessions that it left
 pub runs_more : (es : List ShardEvent) (e : ShardEvent) (cs : List SessionConfig)
     → runs (es ++ e ∷ []) cs ≡ moved (last_tick es) e (runs es cs)
 runs_more es e cs =

@@ -1,4 +1,4 @@
--- A list that is dealt out in turn, where one element of it changes too, and the places of a table and of its shards.
+-- A list that is dealt out one by one, where one element of it changes too, and the places of a table and of its shards.
 use Rattle.bfd_shard.proofs.Common.{◌≡◌, ◌≢◌, ◌<◌, ◌≤◌, ◌+◌, ◌-◌, ◌*◌, ◌/◌, ◌%◌, ℕ, zero, suc, List, [], ◌∷◌, ◌++◌, append_assoc}
 use Rattle.bfd_shard.proofs.Common.{append-nil, length, map, drop, drop-drop, drop_all, drop_more, get_or, set, refl, arith, slice_get}
 use Rattle.bfd_shard.proofs.Common.{AllByRecursion, div-add-mod'}
@@ -99,7 +99,7 @@ module _ {A : Type 0} where
   share_nothing n [] e = refl
   share_nothing n (x ∷ xs) e = cc
 
--- what was made of a share so far, of each element one, makes up the whole with what is left
+-- what a share so far gave, one for each element, makes up the whole with what is left
 module _ {A B : Type 0} (f : A → B) (n c : ℕ) (xs : List A) where
   pub share_more : (at next : ℕ) (part more : List B) (x : A) (y : B) → 0 < n → at < length xs → next ≡ at + n → x ≡ get_or xs at x
       → y ≡ f x → more ≡ part ++ y ∷ []

@@ -172,7 +172,7 @@ quiet_by last i k ks ss s quiet at within over j d inside away (inl same) = cc (
 quiet_by last i k ks ss s quiet at within over j d inside away (inr other) =
     cc (get_or-set_other ss k j s d (λ e. other (sym e)), quiet j d inside (earlier i j k ks at other away))
 
--- one place more is visited
+-- one more place is visited
 pub quiet_more : (last i : ℕ) (ks : List ℕ) (ss ss2 : List Running) (k : ℕ) (s : Running) → QuietFrom last i ks ss → get_or ks i 0 ≡ k
     → k < length ss → ss2 ≡ set ss k s → has_come last (due s) ≡ false → QuietFrom last (i + 1) ks ss2
 quiet_more last i ks ss ss2 k s quiet at within made over =
@@ -195,7 +195,7 @@ quiet_first last ss e = λ k d h away. (cc (
       (rw (← e) away),
 ))
 
--- one place more of the list is visited
+-- one more place of the list is visited
 pub visits_more : (d : Running) (last : ℕ) (ks : List ℕ) (i k : ℕ) (ss ss2 : List Running) (ds ds2 : List (Option ℕ))
     (outs outs2 : List Out)
     → i < length ks → k ≡ get_or ks i 0 → ss2 ≡ set ss k (ticked last (get_or ss k d)) → ds2 ≡ set ds k (due (ticked last (get_or ss k d)))

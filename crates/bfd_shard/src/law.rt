@@ -12,7 +12,7 @@ ghost use Rattle.bfd_shard.specs.History.{later, last_from, last_tick, moved, ru
 
 use bfd_session::tick_laws;
 
-/// Laws of histories, and no work: one event more is an event of the sessions that the history left, at its last tick; the
+/// Laws of histories, and no work: one more event is an event of the sessions that the history left, at its last tick; the
 /// session at each place has run alone; and no event changes a configuration.
 #[tactic(auto, using(crate::proofs::Runs::runs_more, crate::proofs::Runs::last_more, crate::proofs::Runs::runs_at, crate::proofs::Runs::runs_configs))]
 pub fn history_laws()

@@ -227,7 +227,7 @@ impl<W: Timers> Sessions<W> {
         })
     }
 
-    /// One session more, of this configuration, which is within its ranges: it stands at `place` and starts at the last tick, and
+    /// One more session, of this configuration, which is within its ranges: it stands at `place` and starts at the last tick, and
     /// those that stood there and behind it move up by one. Nothing else changes. Fails only when out of memory, and then nothing
     /// has changed. Takes time linear in the sessions.
     #[tactic(auto, using(crate::proofs::Moves::dues_in))]

@@ -118,7 +118,7 @@ impl<W: Timers> ShardState<W> {
         self.group.takes(event)
     }
 
-    /// Makes room for one entry more in the journal, where it is below its limit. Nothing else changes. It fails only when out of memory,
+    /// Makes room for one more entry in the journal, where it is below its limit. Nothing else changes. It fails only when out of memory,
     /// and only below the limit, and then all is as before.
     pub fn prepare(&mut self) -> Result<(), AllocError>
         ensures ready { OnOk result (length self.new.journal < self.new.limit → 0 < self.new.room) }

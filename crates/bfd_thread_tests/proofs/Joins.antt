@@ -1,4 +1,4 @@
--- Passes that are made, and taken in one after another.
+-- Passes that are made, and joined one after another.
 use Rattle.std.proofs.Common.{◌≡◌, ◌≢◌, ◌<◌, ◌++◌, ◌∷◌, [], ℕ, true, List, length, map, get_or, refl, ◌∙◌, append_assoc, append-nil}
 use Rattle.std.specs.List.{All}
 use Rattle.std.proofs.lemmas.List.Elements.{All-push, All-nil}
@@ -56,12 +56,12 @@ module _ (engine : Shards) where
   same_has : (n : ℕ) {xs ys : List ℕ} → xs ≡ ys → has n xs ≡ true → has n ys ≡ true
   same_has n same h = rw (← same) h
 
-  -- with all that were left taken in, each that was made was joined
+  -- with all that were left joined, each that was made was joined
   pub all_joined : {k l : Knows} {js : List Job} → HasOpen engine k (map number_of js) → HasJoined engine k l js → EachJoined engine l
   all_joined {k} {js} left a = λ s n h. same_has n
       (cc (a.made s h, left.made s h, numbers_kept s js, map-append (λ p. p.0) (kept_at k s) (map (kept_by s) js), a.kept s h))
 
--- what is true of what is made of each is true of what is made of the next
+-- what is true of what each gives is true of what the next gives
 pub all_made_next : {X Y : Type 0} (P : Y → Type 0) (f : X → Y) {items : List X} (xs ys : List X) (x : X) → xs ++ x ∷ ys ≡ items
     → All P (map f items) → P (f x)
 all_made_next P f {items} xs ys x is all = all_next P _ (map f xs) (map f ys) (f x) (cc (map-append f xs (x ∷ ys))) all
@@ -71,7 +71,7 @@ pub ready_more : {engine : Shards} {k l : Knows} {before after : List Job} {call
     → All (λ j. IsJobReady engine j) before → HasAdded engine k l before after calls room → All (λ j. IsJobReady engine j) after
 ready_more {engine} {before} all added = rw added.after_is (All-push (λ j. IsJobReady engine j) before added.job all added.ready)
 
--- what is made of each, with one more
+-- what each gives, with one more
 pub map_more : {A B C : Type 0} (f : A → B) (h : C → B) (xs : List A) {ys : List A} {x : A} (zs : List C) (z : C) → map f xs ≡ map h zs
     → f x ≡ h z → ys ≡ xs ++ x ∷ [] → map f ys ≡ map h (zs ++ z ∷ [])
 map_more f h xs {x} zs z same one is = cc (map-append f xs (x ∷ []), map-append h zs (z ∷ []))

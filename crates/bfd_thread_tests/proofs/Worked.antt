@@ -82,7 +82,7 @@ module _ (engine : Shards) where
     made = (same, refl);
   }
 
-  -- one call more
+  -- one more call
   pub worked_one : {a : Job} (b : Job) (call : Call) (saw : Saw) → IsJobReady engine a → IsOf engine b.pass.1 → AllThere b.pass.1
       → b.room ≡ a.room → a.calls.items ≡ b.calls.items ++ call ∷ []
       → b.saw.items ≡ a.saw.items ++ saw ∷ [] → WasMade engine call a.pass b.pass saw → HasCalled engine a b

@@ -56,7 +56,7 @@ impl Pairs {
 
 type Own = Pass<(u32, u32), u32>;
 
-// Adds one pair in a turn, which waits until it is had. Nothing comes back if memory or turns ran out.
+// Adds one pair in a turn, and waits for that turn. Nothing comes back if memory or turns ran out.
 fn add_one<R: Wait>(rt: &R, lock: &TurnLock<Pairs>, pass: Own, number: u32) -> Option<Own>
     requires { pass.0 ≡ lock.now }
     ensures { IfSome result (IsAfterTurns pass) }
@@ -105,7 +105,7 @@ fn add_by_two<R: Threads + Wait + Sync>(
     Some((first?, second?))
 }
 
-// The value, once caller 0 has taken in the one pass that it made.
+// The value, once caller 0 has joined the one pass that it made.
 fn close_both(lock: TurnLock<Pairs>, mut first: Own, second: Own) -> Pairs
     requires first { (first.0 ≡ lock) × (first.1.number ≡ 0) × (first.1.made ≡ 1 ∷ []) × (first.1.joined ≡ []) }
     requires second { (second.0 ≡ lock) × (second.1.number ≡ 1) }
@@ -141,7 +141,7 @@ fn two_threads_add_to_one_history(rt: HostRuntime) -> Result<(), Fail> {
     Ok(())
 }
 
-// Why one try is refused. A turn that is had is given back.
+// Why one try is refused. A turn that was taken is given back.
 fn refusal_of(lock: &TurnLock<Pairs>, pass: Own) -> Option<TryFault<(u32, u32), u32>>
     requires { pass.0 ≡ lock.now }
     ensures { IfSome result (IsRefused lock.now pass.1) }

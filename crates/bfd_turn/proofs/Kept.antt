@@ -64,7 +64,7 @@ module _ {V N B : Type 0} (notes : V → List N) (base : V → B) (h : List N) (
   abbrev pub Place : ℕ → State (Option V) (View N B) → Type 0
   Place now s = AtHome notes base h lb now s ⊎ Out h now (s.homes ≡ none ∷ []) s.views
 
-  -- the value stays where it is, and who holds the turn holds it still
+  -- the value stays where it is, and the holder of the turn still holds it
   pub place_moves : (s : State (Option V) (View N B)) (words : List ℕ) (views : List (View N B)) (now : ℕ)
       → total_taken views ≡ total_taken s.views
       → ((j : ℕ) (u : View N B) → get_elem? s.views j ≡ some u → u.role ≡ Holding → get_elem? views j ≡ some u)

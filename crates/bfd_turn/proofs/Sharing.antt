@@ -1,4 +1,4 @@
--- Caller 0 makes a pass, takes one in, and closes the lock.
+-- Caller 0 makes a pass, joins one, and closes the lock.
 use Rattle.bfd_turn.proofs.Common.{◌≡◌, ◌≢◌, ◌⊎◌, ℕ, zero, suc, ◌*◌, ◌<◌, ◌≤◌, Bool, true, false, List, [], ◌∷◌, ◌++◌, length, set, sym}
 use Rattle.bfd_turn.proofs.Common.{refl, ap, ◌∙◌, subst, inl, inr, ⊎_elim, arith, Option, Some, None, All, some, some-injective, dite}
 use Rattle.bfd_turn.proofs.Common.{ℕ_discrete, get_elem?, map-append, All-append, State, Splits, Joins, Final, Seen, at_set, set_here}

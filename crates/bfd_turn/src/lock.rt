@@ -119,7 +119,7 @@ impl<V: Recorded> TurnLock<V> {
     /// One try at a turn, by one load and at most one exchange. It doesn't wait.
     ///
     /// Busy comes if and only if the word read is odd or the exchange finds another word, and Spent iff the word read is 2^64 - 2.
-    /// Either way the pass comes back with the word read as that of its one load more and the last word met, and all else as it was.
+    /// Either way the pass comes back with the word read as that of its one more load and the last word met, and all else as it was.
     pub fn try_turn(
         &self,
         pass: Pass<V::Note, V::Base>,

@@ -1,4 +1,4 @@
--- The watched text with one event more.
+-- The watched text with one more event.
 use Rattle.std.proofs.Common.{◌≡◌, ℕ, ◌+◌, refl, ap, List, [], ◌∷◌, ◌++◌, length, map, append_assoc, append-nil, arith}
 use Rattle.std.proofs.lemmas.List.{map-id}
 use Rattle.bfd_session.specs.Alone.{Outcome}
@@ -27,7 +27,7 @@ members_twice cs ds (m ∷ ms) = cc (member_twice cs ds m, members_twice cs ds m
 pub group_twice : (cs ds : List Change) (g : Group) → group_after (cs ++ ds) g ≡ group_after ds (group_after cs g)
 group_twice cs ds g = cc (members_twice cs ds g.members)
 
--- one event more
+-- one more event
 
 first : (n : ℕ) (o : Outcome) (g : Group) → watched_lines_from n (o ∷ []) g
     ≡ watched_lines (n + 0) (changes_in (n + 0) o.items) (group_after [] g)

@@ -45,7 +45,7 @@ changes_more configs es e =
     let number : 1 + length (outcomes_after configs [] es) ≡ length es + 1 = omega (arith, outcomes_long configs [] es) in
     cc (outcomes_more configs [] es e, from_more 1 (outcomes_after configs [] es) (outcome_of (last_tick es) e (runs es configs)))
 
--- what a watch has told of all the entries that it took, with one more
+-- what a watch has reported of all the entries that it took, with one more
 pub whole_more : {configs configs2 : List SessionConfig} (js js2 : List Entry) (entry : Entry) {told more : List Change}
     → configs2 ≡ configs
     → js2 ≡ js ++ entry ∷ [] → more ≡ told ++ changes_in (length js + 1)

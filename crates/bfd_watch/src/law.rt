@@ -8,7 +8,7 @@ ghost use Rattle.bfd_watch.specs.Changes.{history_changes, changes_from, changes
 ghost use Rattle.bfd_watch.specs.Groups.{Group, group_after};
 ghost use Rattle.bfd_watch.specs.Watched.{watched_lines, watched_lines_from, watched, watched_line};
 
-/// Laws of changes, and no work: one event more gives what it does to the sessions that the history left, at its last tick;
+/// Laws of changes, and no work: one more event gives what it does to the sessions that the history left, at its last tick;
 /// its changes come behind the others, with the next number.
 #[tactic(auto, using(crate::proofs::Telling::outcomes_grow, crate::proofs::Telling::changes_more))]
 pub fn changes_laws()
@@ -21,7 +21,7 @@ pub fn changes_laws()
         (outcome_of (last_tick events) event (runs events configs)).items }
 {}
 
-/// Laws of the watched text, and no work: with one event more come its lines, with the next number and the group as all
+/// Laws of the watched text, and no work: with one more event come its lines, with the next number and the group as all
 /// changes before have left it; and the group is then as its changes leave it. The whole text is these lines and the last.
 #[tactic(auto, using(crate::proofs::Lines::lines_more, crate::proofs::Lines::group_more))]
 pub fn watched_laws()

@@ -1,4 +1,4 @@
--- All ids linked anew, one after another.
+-- All ids relinked, one after another.
 use Rattle.bfd_wheel.proofs.Common.{◌≡◌, ◌≢◌, ℕ, zero, suc, ◌+◌, ◌^◌, ◌<◌, ◌≤◌, List, [], ◌∷◌, length, refl, sym, ap, subst, arith}
 use Rattle.bfd_wheel.proofs.Common.{slice_index, slice_set, never, Node, Links, next_in, prev_in, place, IsWheel}
 use Rattle.bfd_wheel.specs.Wheel.{first_dues}
@@ -26,7 +26,7 @@ none_next [] k near = absurd (omega arith)
 none_next (d ∷ ds) zero near = refl
 none_next (d ∷ ds) (suc k) near = none_next ds k (omega arith)
 
--- once it has its own, these are the due ticks of one id more
+-- once it has its own, these are the due ticks with one more id
 one_more : (ds : List ℕ) (k : ℕ) → k < length ds → slice_set (first_dues ds k) k (slice_index ds k) ≡ first_dues ds (suc k)
 unfolding first_dues
 one_more [] k near = absurd (omega arith)

@@ -1,4 +1,4 @@
--- Taking a node out of its ring, putting one in behind a head, and naming the lists anew.
+-- Taking a node out of its ring, putting one in behind a head, and renaming the lists.
 use Rattle.bfd_wheel.proofs.Common.{◌≡◌, ◌≢◌, inl, inr, ℕ, ◌<◌, ◌≤◌, sym, ◌∙◌, ap, subst, arith, cases_eq, cases_lt, never, IsOn, IsRing}
 use Rattle.bfd_wheel.proofs.Common.{Unlinks, Links}
 
@@ -26,7 +26,7 @@ module _ (n all i : ℕ) (due home next prev rank due2 home2 next2 prev2 : ℕ �
   out_stays : {j : ℕ} → j ≢ i → IsOn all due j → IsOn all due2 j
   out_stays {j} ne on = record { below = on.below; there = λ e. on.there (cc (u.due_same j ne)) }
 
-  -- who has i before it is what i has behind it
+  -- the node that has i before it is the one behind i
   out_next_is : {j : ℕ} → IsOn all due2 j → j ≢ prev i → next j ≢ i
   out_next_is {j} on ne = λ e. ne (cc (r.back j (out_was on)))
 
@@ -126,7 +126,7 @@ module _ (n all i : ℕ) (due home next prev rank due2 home2 next2 prev2 : ℕ �
     no_gap = out_no_gap;
   }
 
--- the id i, which was on no list, comes to the list of the head h, with the highest rank
+-- the id i, which was on no list, goes onto the list of the head h, with the highest rank
 pub record PutsIn (i h top : ℕ) (due home next prev rank due2 home2 next2 prev2 rank2 : ℕ → ℕ) : Type 0 where
   pub on_now : due2 i ≢ never
   pub due_same : (j : ℕ) → j ≢ i → due2 j ≡ due j

@@ -27,7 +27,7 @@ waits_not {t} dues x below h = cc (lt-leb (get_or dues x never) t (elim (cases_l
   | inr past ↦ (omega (arith, get_or_past dues x never past))
 ]))
 
--- who waits is an id whose due tick is at most t
+-- what waits is an id whose due tick is at most t
 waits_then : {t : ℕ} (dues : List ℕ) (x : ℕ) → t < never → 1 ≤ counts_due t dues x → (x < length dues) × (slice_index dues x ≤ t)
 waits_then {t} dues x below h = elim (cases_lt x (length dues)) [
   | inl inside ↦ (

@@ -62,7 +62,7 @@ upto_falls rank l m c (suc k) near at less = elim (cases_eq c k) [
 
 -- ---- the walk
 
--- the walk of the list of head stands at cur after i steps: whoever of the list isn't ahead has a due tick above t
+-- the walk of the list of head stands at cur after i steps: every id of the list that isn't ahead has a due tick above t
 pub record IsWalk (n now head t : ℕ) (dues : List ℕ) (nodes : List Node) (cur i : ℕ) : Type 0 where
   pub wheel : IsWheel n now dues nodes
   pub on : IsOn (n + 4097) (due_in dues) cur
@@ -85,7 +85,7 @@ walk_begins {n} {now} {head} t {dues} {nodes} w far near =
       left = omega (arith, upto-le w.links.rank (w.links.rank (next_in nodes head)) n);
     }
 
--- who isn't the head is an id
+-- what isn't the head is an id
 pub walk_id : {n now head t : ℕ} {dues : List ℕ} {nodes : List Node} {cur i : ℕ} → IsWalk n now head t dues nodes cur i → cur ≢ head
     → cur < n
 walk_id {n} {now} {dues} {cur} w other = elim (cases_lt cur n) [

@@ -137,7 +137,7 @@ filled {n} {now} {i} {due} {dues} {nodes} nodes2 w id off there size u = record 
 
 -- ---- time moves
 
--- a due tick above t keeps its slot when the time comes to t
+-- a due tick above t keeps its slot when the time reaches t
 place_moved : (n : ℕ) {now t due : ℕ} → t < due → now ≤ t → place n t due ≡ place n now due
 place_moved n {now} {t} {due} above later =
     ap (λ b. cond b (n + 4096) (n + due % 4096)) (let same : nat_le due t ≡ nat_le due now = grind (arith, nat_tests) in same)

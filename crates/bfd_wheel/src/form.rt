@@ -18,7 +18,7 @@ pub trait Timers: Drop + Sized {
         requires { count ≤ 65536 }
         ensures { IfOk result (λ timers. dues timers ≡ replicate count None) };
 
-    /// One id more, with this due tick, if any, below 2^60: `id` and those above it move up by one. There are at most
+    /// One more id, with this due tick, if any, below 2^60: `id` and those above it move up by one. There are at most
     /// 65,536 ids then. Fails only when out of memory, and then no due tick has changed.
     fn insert(&mut self, alloc: Global, id: u32, due: Option<u64>) -> Result<(), AllocError>
         requires id { id ≤ length (dues self.old) }

@@ -41,7 +41,7 @@ module _ {engine : Shards} {configs : List SessionConfig} {pool : List Reflector
 pub taken_apart : {whole script : Lists} → script ≡ whole → IsScript whole → IsScript script
 taken_apart same is = subst IsScript (sym same) is
 
--- what was told is the script's watched text
+-- what was reported is the script's watched text
 pub whole_text : (script : Lists) {engine : Shards} {shards limit need : ℕ} (members : List ℕ) (k : Knows) {text : List ℕ} {g : Group}
     → IsOpenedFor engine script.configs script.pool shards limit
     → (AllSole (length engine.locks) k → text ≡ watched

@@ -7,7 +7,7 @@ use Rattle.bfd_shard.proofs.Sharing.{share_next, share_nothing}
 use Rattle.bfd_engine.proofs.Places.{front_here, last_here}
 
 module _ {A : Type 0} where
-  -- one element more of a share
+  -- one more element of a share
   pub share_more : (n c at next : ℕ) (xs part more : List A) (x : A) → 0 < n → at < length xs → next ≡ at + n → x ≡ get_or xs at x
       → more ≡ part ++ x ∷ []
       → part ++ share n 0 (drop at xs) ≡ share n c xs → more ++ share n 0 (drop next xs) ≡ share n c xs
@@ -17,7 +17,7 @@ module _ {A : Type 0} where
   pub share_over : (n c at : ℕ) (xs part : List A) → length xs ≤ at → part ++ share n 0 (drop at xs) ≡ share n c xs → part ≡ share n c xs
   share_over n c at xs part over whole = cc (append-nil part, share_nothing n _ (drop_all at xs over))
 
--- a watch more
+-- one more watch
 pub watch_more : (n r limit : ℕ) (cs : List SessionConfig) (before after : List Watching) (w : Watching) → after ≡ before ++ w ∷ []
     → length before ≡ r
     → w ≡ watching (share n r cs) [] limit → ((k : ℕ) → k < r → slice_get before k ≡ Some (watching (share n k cs) [] limit))

@@ -28,7 +28,7 @@ unread_so : (job : Job) {left right : Option (List ℕ)} {w : Wanted} → reads 
 unread_so job reading (inl faulty) = rw faulty.complained reading
 unread_so job reading (inr long) = rw long.nothing reading
 
--- what a job has to tell is told under a status of its own
+-- what a job has to report goes with a status of its own
 pub ends_so : (job : Job) (left right : Option (List ℕ)) (old new : Edges) (w : Wanted) → Tells job left right old new w
     → IsEndOf (Some job) w.status
 ends_so (Replay hands) left right old new w tells = bytes_so tells

@@ -1,4 +1,4 @@
--- The status that comes of what `serve` has to tell.
+-- The status that follows from what `serve` has to report.
 use Rattle.bfdd.proofs.Common.{◌≡◌, ◌⊎◌, ◌≤◌, ℕ, true, List, length, Option, Some, None, Ok, inl, inr, refl, subst, arith, ◌+◌, ◌-◌, ◌^◌}
 use Rattle.bfdd.proofs.Common.{min, IfSome, Rose, risen, Status, Memory, Comes, Edges, HasNoScript, HasServedScript, IsFaulty}
 use Rattle.bfdd.proofs.Common.{IsServedToFinish, IsOverlong, IsServed, Wanted, most_bytes, OfServing, serves, Job, Lists, script_of, Serve}

@@ -1,4 +1,4 @@
--- What `serve` has to tell: a text that goes with every finish, and none that its bytes decide.
+-- What `serve` has to report: a text that goes with every finish, and none that its bytes decide.
 use Rattle.std.proofs.Common.{◌≡◌, ℕ, Bool, true, false, if◌then◌else◌, List, length, Option, Some, None, Result, Ok, Err, sym, subst}
 use Rattle.std.proofs.lemmas.Bool.{le-ltb}
 use Rattle.std.proofs.lemmas.List.{append-nil}
@@ -21,7 +21,7 @@ pub goes_with : (end : Finish) (text : List ℕ) → HasText (status_of end) tex
 goes_with finish.Done text = tt
 goes_with end text = tt
 
--- the bytes that a source told are those that were read to its end
+-- the bytes that are observed of a source are those that were read to its end
 pub read_whole : (bytes : List ℕ) (right : Option (List ℕ)) (more : List ℕ) → Consumes (Some bytes) right more → IsAtEnd right
     → bytes ≡ more
 read_whole bytes None more read end = absurd read

@@ -1,4 +1,4 @@
--- What shards tell, each in the order of its own sessions, is as one list what the whole table tells.
+-- What shards report, each in the order of its own sessions, is as one list what the whole table reports.
 use Rattle.bfdd.proofs.WatchedTextCommon.{◌≡◌, ◌≢◌, ◌⊎◌, inl, inr, ◌<◌, ◌≤◌, ◌+◌, ◌-◌, ◌==◌, ◌++◌, ℕ, zero, suc, Bool, true, false, List}
 use Rattle.bfdd.proofs.WatchedTextCommon.{[], ◌∷◌, refl, sym, ap, append_assoc, arith, nat_lt, if◌then◌else◌, AllByRecursion, flat_map}
 use Rattle.bfdd.proofs.WatchedTextCommon.{filter_map-append, lt-ltb, le-ltb, eq-eqb, ne_eqb, cases_lt, dite, ℕ_discrete, Out, Changed, Sent}
@@ -141,7 +141,7 @@ module _ (f : Running → List Change) where
     above_picked n p d q (s ∷ ss) h = above_if d (p q) (f s) (picked n p (next n q) ss) (above_own d (discr_of s.config) (f s) h.0 (own s))
         (above_picked n p d (next n q) ss h.1)
 
-    -- of one shard more
+    -- of one more shard
     more_by : (n r q : ℕ) (s : Running) (ss : List Running) → AllByRecursion (λ c. discr_of s.config < discr_of c) (configs_of ss)
         → merged (picked n (λ j. nat_lt j r) (next n q) ss) (picked n (λ j. j == r) (next n q) ss)
         ≡ picked n (λ j. nat_lt j (suc r)) (next n q) ss
@@ -229,7 +229,7 @@ pub changes_flat : (number : ℕ) (items : Running → List Out) (ss : List Runn
 changes_flat number items [] = refl
 changes_flat number items (s ∷ ss) = cc (filter_map-append _ (items s) (flat_map items ss), changes_flat number items ss)
 
--- a session's outputs tell changes of its own
+-- a session's outputs report changes of its own
 pub changes_own : (number d : ℕ) (os : List Out) → AllByRecursion (λ o. named o ≡ d) os → AreOf d (changes_in number os)
 changes_own number d [] h = tt
 changes_own number d (Changed discr before after diag ∷ os) h = (h.0, changes_own number d os h.1)

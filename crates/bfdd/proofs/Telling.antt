@@ -1,4 +1,4 @@
--- What a job has to tell, where its bytes decide it.
+-- What a job has to report, where its bytes decide it.
 use Rattle.std.proofs.Common.{◌≡◌, ℕ, false, List, Option}
 use Rattle.bfdd.specs.Serving.{Edges}
 use Rattle.bfdd.specs.Tells.{Tells, TellsBytes}
@@ -7,7 +7,7 @@ use Rattle.bfdd.specs.Words.{serves}
 use Rattle.bfdd.specs.declared.words.job.Job.{Job}
 use Rattle.bfdd.specs.declared.words.job.Job.TheVariants.{Serve}
 
--- a job that doesn't serve tells what its bytes decide
+-- a job that doesn't serve reports what its bytes decide
 pub closed_tells : (job : Job) (left right : Option (List ℕ)) (old new : Edges) (w : Wanted) → serves job ≡ false
     → TellsBytes job left right w
     → Tells job left right old new w

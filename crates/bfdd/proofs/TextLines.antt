@@ -1,4 +1,4 @@
--- What a line of a script is to an engine's shards, and what all of them tell of it.
+-- What a line of a script is to an engine's shards, and what all of them report of it.
 use Rattle.bfdd.proofs.WatchedTextCommon.{◌≡◌, ◌<◌, ◌+◌, ◌*◌, ◌%◌, ◌==◌, ◌++◌, ◌∙◌, ◌∷◌, max, ℕ, [], List, length, drop, map, sym, ap, refl}
 use Rattle.bfdd.proofs.WatchedTextCommon.{append-nil, mod-lt, eq-eqb, ne_eqb, dite, ℕ_discrete, drop-append_seam, Option, None, Some}
 use Rattle.bfdd.proofs.WatchedTextCommon.{Result, Ok, Err, if◌then◌else◌, cons_option, flat_map, Out, Changed, Sent, tick_items, Running}
@@ -18,7 +18,7 @@ use Rattle.bfd_replay.proofs.Sharing.{own_gives}
 use Rattle.bfd_replay.specs.Planned.{reflecting}
 use Rattle.bfdd.proofs.Shared.{all_of, same_of, none_of, one_of, changes_flat, changes_own}
 
--- an event of no session tells no change
+-- an event that matches no session reports no change
 
 abbrev IsQuiet : Happening → Type 0
 IsQuiet (Apart outcome) = (number : ℕ) → changes_in number outcome.items ≡ []
@@ -35,7 +35,7 @@ is_quiet pool (Reflects place arrival) = reflecting_quiet _ (reflect pool arriva
 is_quiet pool (Happens place moment event) = tt
 is_quiet pool (Passes t) = tt
 
--- what a shard's watch tells of the event that it was brought
+-- what a shard's watch reports of the event that it was given
 
 renumbered : (number a : ℕ) (os : List Out) → map (of_event number) (changes_in a os) ≡ changes_in number os
 renumbered number a [] = refl
@@ -73,7 +73,7 @@ shard_tells n r number before seen limit past h cs inside was now =
       runs_share n r past cs inside,
     )
 
--- what all shards tell
+-- what all shards report
 
 tick_changes : (number last t : ℕ) (ss : List Running)
     → changes_in number (outcome_of last (Tick t) ss).items ≡ flat_map (λ s. changes_in number (tick_items (max last t) s)) ss

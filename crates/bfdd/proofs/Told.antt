@@ -26,7 +26,7 @@ outcomes_start engine lines =
     let e : map started engine.configs ≡ runs [] engine.configs = left_runs [] engine.configs in
     ap (λ ss. happening_outcomes 0 (happenings engine.configs engine.pool lines) ss) (sym e)
 
--- what was told of a script so far, if caller 0 is the only one
+-- what was reported of a script so far, if caller 0 is the only one
 pub record IsTold (engine : Shards) (lines left : List Line) (k : Knows) (number told : ℕ) (text : List ℕ) (before g : Group) : Type 0 where
   pub past : List ShardEvent
   pub short : length past + 1 ≤ number
@@ -83,7 +83,7 @@ seen_next {engine} line t went r inside sole =
     let w = went r inside in
     cc (w.seen sole, t.seen r inside (w.sole sole), entries_both (history_of n r t.past) (brought n h r), history_after n r t.past h)
 
--- what all watches tell is what the line gives
+-- what all watches report is what the line gives
 changes_are : {engine : Shards} {lines left : List Line} (line : Line) {k m : Knows} {number told : ℕ} {text : List ℕ} {before
     g : Group} {limit : ℕ} {watches : List Watching} {changes : List Change} (t : IsTold engine lines left k number told text before g)
     → 0 < length engine.locks → Ascends engine.configs
@@ -108,7 +108,7 @@ changes_are {engine} line {k} {m} {number} {limit = limit} {watches} t some up w
     ∙ all_tell number (last_tick t.past) h (runs t.past cs) some (subst Ascends (sym (runs_configs 0 t.past cs)) up)
     (is_quiet engine.pool (doing cs engine.pool line)))
 
--- a line more is told
+-- one more line is reported
 pub told_next : {engine : Shards} {lines left rest : List Line} {line : Line} {k l m : Knows} {number told : ℕ} {text : List ℕ} {before
     g : Group} {limit told2 : ℕ} {watches : List Watching} {changes : List Change} {text2 : List ℕ} {g2 : Group} → 0 < length engine.locks
     → Ascends engine.configs

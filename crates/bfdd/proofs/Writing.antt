@@ -1,4 +1,4 @@
--- What comes of writing an answer, clause by clause of a run.
+-- The outcome of writing an answer, clause by clause of a run.
 use Rattle.bfdd.proofs.Common.{◌≡◌, ◌≢◌, ◌⊎◌, ℕ, List, [], Option, inl, inr, refl, sym, ◌∙◌, subst, append-nil, Rose, Status, Done, Usage}
 use Rattle.bfdd.proofs.Common.{BadLine, ReadFault, WriteFault, PortFault, LinkFault, TooLarge, JournalFull, Turns, ClockFault, Memory}
 use Rattle.bfdd.proofs.Common.{NoMember, IsDecided, IsWrittenBy, OnBadLine, UnlessWriting, WhereUnwritten, Wanted, complaint_line, Appends}
@@ -157,7 +157,7 @@ module _ (w : Wanted) (result : Status) (old new : Option (List ℕ)) (before no
   write_fault (inr (inl broken)) is = broken.rose
   write_fault (inr (inr cut)) is = cc
 
--- a faulty line is told, or a prefix of that where the sink failed
+-- a faulty line is reported, or a prefix of that if the sink failed
 pub bad_text : (w : Wanted) (result : Status) (old new : Option (List ℕ)) (before now : ℕ) → IsAnswer w → IsDecided result w.status
     → IsWrittenBy result old new before now w.text
     → OnBadLine result (λ bad. Appends old new (complaint_line bad) ⊎ (Rose before now × TookFront old new (complaint_line bad)))

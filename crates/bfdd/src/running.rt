@@ -49,11 +49,11 @@ where
     requires new { (number : ℕ) → (P.told ports.old).opened number ≡ false }
     requires clock { (T.told ticker.old).over ≡ false }
 
-    // The words and the text decide: the status is the one that is wanted, or memory, the source or the sink failed.
+    // The words and the text decide: the status is the required one, or memory, the source or the sink failed.
     ensures decided { IfSome (wanted (job_of (map (λ word. string_bytes word) words.now)) (S.left source.old))
         (λ w. IsDecided result w.status) }
 
-    // With Done the wanted text was written and nothing else; and however the run ends, what was written is a prefix of it.
+    // With Done the required text was written and nothing else; and however the run ends, what was written is a prefix of it.
     ensures done { result ≡ Status.Done
         → IfSome (wanted (job_of (map (λ word. string_bytes word) words.now)) (S.left source.old))
         (λ w. Appends (K.taken sink.old) (K.taken sink.new) w.text) }

@@ -125,7 +125,7 @@ impl<W: Timers> Recorded<W> {
         answer
     }
 
-    /// One session more, as `Instance::add` has it, with a record in which nothing has happened. Where a fault keeps it from being added,
+    /// One more session, as `Instance::add` has it, with a record in which nothing has happened. Where a fault keeps it from being added,
     /// nothing has changed.
     pub fn add(&mut self, alloc: Global, config: SessionConfig) -> Result<(), AddFault>
         requires { IsFit config }
@@ -167,7 +167,7 @@ impl<W: Timers> Recorded<W> {
         }
     }
 
-    /// One reflector more, as `Instance::add_reflector` has it. The records stay.
+    /// One more reflector, as `Instance::add_reflector` has it. The records stay.
     pub fn add_reflector(&mut self, reflector: Reflector) -> Result<(), AddFault>
         ensures world { OnOk result (self.new.world ≡ world.world_with_reflector reflector self.old.world) }
         ensures records { self.new.records ≡ self.old.records }

@@ -79,7 +79,7 @@ fn giving(to: Side, e: u64, draw: u32, pair: &Pair) -> PairEvent
     }
 }
 
-/// The event of this number, from 1, and draw, over what the ones before it have made of the two.
+/// The event of this number, from 1, and draw, over the two as the ones before it have left them.
 pub(crate) fn event_by(e: u64, draw: u32, pair: &Pair) -> PairEvent
     requires { e ≤ 100000 }
     ensures { result ≡ schedule.event_by e draw (pair_run pair.now.left pair.now.right pair.now.past) }

@@ -61,7 +61,7 @@ impl Queue {
         }
     }
 
-    /// The queue with a piece more behind what there is. Fails only when out of memory, or at 2^64 events, which it reports as out of
+    /// The queue with one more piece behind what there is. Fails only when out of memory, or at 2^64 events, which it reports as out of
     /// memory.
     pub(crate) fn with(self, piece: Vec<Numbered>) -> Result<Queue, AllocError>
         ensures { IfOk result (λ queue. queue ≡ self ++ piece.items) }

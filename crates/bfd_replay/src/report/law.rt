@@ -18,7 +18,7 @@ ghost use Rattle.bfd_replay.specs.Spread.{AreGathered};
 /// Laws of sessions that are dealt out, and no work. A shard's sessions after its history are those of the whole table after
 /// its events; the session at place k of the table stands at place k / shards of shard k % shards; an own event gives there
 /// what it gives of the table, and changes no session of another shard; the events of a shard's queue are its history; and
-/// one event more adds to the queue what the shard has of it.
+/// one more event adds to the queue what the shard has of it.
 #[tactic(auto, using(bfd_shard::proofs::Sharing::there, crate::proofs::Sharing::own_gives, crate::proofs::Sharing::own_away, crate::proofs::Histories::runs_share, crate::proofs::Histories::queue_events, crate::proofs::Histories::queue_more, crate::proofs::Histories::queue_append))]
 pub fn dealing_laws()
     ensures sessions { (shards shard : ℕ) (events : List ShardEvent) (configs : List SessionConfig) → shard < shards
@@ -44,7 +44,7 @@ pub fn dealing_laws()
         ≡ queue shards shard number events ++ queue shards shard (number + length events) others }
 {}
 
-/// Laws of what shards report, and no work. One event more of a shard's queue adds the pieces of what it gives, of the sessions
+/// Laws of what shards report, and no work. One more event of a shard's queue adds the pieces of what it gives, of the sessions
 /// that the events before it left; an event that matches no session adds its one piece to the part of those; what is reported of those
 /// among events behind others stands behind what is reported of theirs; and of a table whose sessions ascend by discriminator, the parts of
 /// any number of shards, taken in the order of a report, are the pieces of the whole table.

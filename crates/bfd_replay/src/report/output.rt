@@ -44,7 +44,7 @@ pub fn write_each<K: Sink>(sink: &mut K, texts: &[Vec<u8>]) -> Result<(), Fault>
     Ok(())
 }
 
-/// Writes the text where it is long, and begins it anew: less than 64 KiB of it is left. It is refused as `write_all` is; the sink
+/// Writes the text if it is long, and begins a new one: less than 64 KiB of it is left. It is refused as `write_all` is; the sink
 /// accepted a prefix of the text then, and the text is as it was.
 pub fn give_on<K: Sink>(text: &mut Vec<u8>, sink: &mut K) -> Result<(), Fault>
     ensures text { OnOk result (TookUpTo (K.taken sink.old) (K.taken sink.new) text.old.items text.new.items) }

@@ -42,7 +42,7 @@ impl Model for Told {
     ghost view = { λ t. record { text = t.text.items; events = t.events; txs = t.txs; drops = t.drops } };
 }
 
-/// Appends the lines of an event, and writes the text if it is long, which then begins anew.
+/// Appends the lines of an event, and writes the text if it is long; then a new one begins.
 fn write_event<K: Sink>(
     number: u64,
     outs: &Outs,
@@ -115,7 +115,7 @@ impl Told {
         }
     }
 
-    /// One event more, with so many packets that were sent and were dropped. Fails only at 2^64 of them, which it reports as out of memory.
+    /// One more event, with so many packets that were sent and were dropped. Fails only at 2^64 of them, which it reports as out of memory.
     fn count(&mut self, more: (u64, u64)) -> Result<(), AllocError>
         requires few { self.old.events < 200000 }
         ensures text { self.new.text ≡ self.old.text }

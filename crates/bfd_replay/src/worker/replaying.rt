@@ -16,7 +16,7 @@ ghost use Rattle.bfd_replay.specs.Replayed.{HasTotals, HaveReplayed, worker_of};
 
 use crate::counting::{Replayed, up_all};
 use crate::plan::{Plan, longest};
-use crate::report::{Counts, Part, report_at_once, write_each};
+use crate::report::{Counts, Part, report_by_threads, write_each};
 use crate::worker::beginning::begun;
 use crate::worker::finish::in_order;
 use crate::worker::running::run_all;
@@ -88,7 +88,7 @@ fn join<R: Threads>(rt: &R, thread: Option<JoinHandle<()>>) {
 }
 
 /// Writes the report of so many events, which is put together by up to four threads; the shards are freed meanwhile.
-fn write_at_once<W: Timers + Send + 'static, R: Threads + Sync, K: Sink>(
+fn write_report<W: Timers + Send + 'static, R: Threads + Sync, K: Sink>(
     rt: &R,
     alloc: Global,
     parts: Vec<Part>,
@@ -113,7 +113,7 @@ fn write_at_once<W: Timers + Send + 'static, R: Threads + Sync, K: Sink>(
     ensures cause { HasCause (K.faults sink.old) (K.faults sink.new) result }
     ensures calm { OnOk result (K.faults sink.new ≡ K.faults sink.old) }
 {
-    let Ok((texts, counts)) = report_at_once(rt, alloc, parts, events) else {
+    let Ok((texts, counts)) = report_by_threads(rt, alloc, parts, events) else {
         return Err(Fault::Memory);
     };
     let freeing = free(rt, states);
@@ -130,7 +130,7 @@ fn write_at_once<W: Timers + Send + 'static, R: Threads + Sync, K: Sink>(
 /// packets sent or dropped; the sink accepted a prefix of the report then. Its counts come back,
 /// and for clauses what the closed shards were.
 #[tactic(auto, using(crate::proofs::Worlds::is_table))]
-pub(crate) fn replay_at_once<
+pub(crate) fn replay_by_workers<
     W: Timers + Send + 'static,
     R: Threads + Wait + Sync,
     G: Gate + Sync,
@@ -167,7 +167,7 @@ pub(crate) fn replay_at_once<
     };
     let closed = Snapshot::of(&states);
     let up = up_all(&states);
-    match write_at_once(rt, alloc, parts, states, count, sink) {
+    match write_report(rt, alloc, parts, states, count, sink) {
         Ok(counts) => Ok(Replayed { counts, up, closed }),
         Err(fault) => Err(fault),
     }

@@ -20,7 +20,7 @@ pub enum Finish {
     /// The ticker failed.
     ClockFault,
 
-    /// The journal of this shard is at its limit, and there was a call more.
+    /// The journal of this shard is at its limit, and there was one more call.
     JournalFull(u32),
 
     /// The worker of this number made its number of turns before its link ended.

@@ -65,7 +65,7 @@ fn follow<W: Timers, L: Ledger>(
     shard.apply(entry.caller, entry.event, outs, &mut Steps::<L>::new(blank))
 }
 
-/// One entry more of a journal: the shard accepts it, and its turn and what it gave are appended. Gives how many packets it sent.
+/// One more entry of a journal: the shard accepts it, and its turn and what it gave are appended. Gives how many packets it sent.
 fn tell_entry<W: Timers>(
     alloc: Global,
     shard: &mut ShardState<W>,

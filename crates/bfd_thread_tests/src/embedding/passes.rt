@@ -11,7 +11,7 @@ use bfd_shard::ShardState;
 use bfd_wheel::Timers;
 use std::alloc::{AllocError, Global};
 
-/// A job more, for a thread more: a further pass, which has seen what caller 0 has seen, with these calls, the last first, and
+/// One more job, for one more thread: a further pass, which has seen what caller 0 has seen, with these calls, the last first, and
 /// room for so many outputs of each. Fails only when out of memory. That leaves the jobs and every shard's pass as they were,
 /// and may use a number up.
 pub fn add_job<W: Timers>(

@@ -33,7 +33,7 @@ pub enum Status {
     /// The source gave more than 67,108,864 bytes. Nothing was written.
     TooLarge,
 
-    /// The journal of this shard is at its limit, and there was a call more. The served text was written as with `LinkFault`.
+    /// The journal of this shard is at its limit, and there was one more call. The served text was written as with `LinkFault`.
     JournalFull(u32),
 
     /// The worker of this number made its number of turns before its link ended. The served text was written as with `LinkFault`.

@@ -1,4 +1,4 @@
--- One packet was handled, and this came of those behind it.
+-- One packet was handled, and this is the outcome of those behind it.
 use Rattle.std.proofs.Common.{rules, arith, subst, sym, suc, ◌≡◌, ◌+◌, ℕ, List, ◌∷◌, length}
 use Rattle.std.specs.Prelude.{true, false, is_some}
 use Rattle.bfd_c.specs.declared.many.Arrived.{Arrived}

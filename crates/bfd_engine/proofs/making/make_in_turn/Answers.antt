@@ -1,4 +1,4 @@
--- One shard more.
+-- One more shard.
 use Rattle.bfd_engine.proofs.Common.{arith, ◌∷◌, [], length-append}
 use Rattle.bfd_engine.proofs.States.{new_more}
 use Rattle.bfd_engine.proofs.making.make_in_turn.Goals as goal

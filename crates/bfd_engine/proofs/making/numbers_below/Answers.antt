@@ -1,4 +1,4 @@
--- One number more.
+-- One more number.
 use Rattle.bfd_engine.proofs.Common.{arith, ◌∷◌, [], length-append}
 use Rattle.bfd_engine.proofs.States.{number_more}
 use Rattle.bfd_engine.proofs.making.numbers_below.Goals as goal

@@ -1,4 +1,4 @@
--- One lock more.
+-- One more lock.
 use Rattle.bfd_engine.proofs.Common.{◌≡◌, ◌∷◌, [], map, subst, append-nil, append_assoc, nil_from_length, AllByRecursion}
 use Rattle.std.proofs.lemmas.Result.{IfOk-weaker}
 use Rattle.bfd_engine.specs.Opening.{MayLock}

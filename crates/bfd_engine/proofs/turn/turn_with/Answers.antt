@@ -1,4 +1,4 @@
--- The room for the outputs, and what the entry tells.
+-- The room for the outputs, and what the entry shows.
 use Rattle.bfd_engine.proofs.Common.{rules, sym, length, ◌<◌, ◌≡◌, ◌∙◌, ◌++◌, ◌∷◌, [], ap, arith, configs_of, configs_in, entry_of}
 use Rattle.bfd_engine.proofs.Common.{limit_in}
 use Rattle.bfd_engine.proofs.Timing.{had_turn, timely, turned_here}

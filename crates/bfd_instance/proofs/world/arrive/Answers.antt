@@ -1,4 +1,4 @@
--- What an arrival comes to is a turn of the world.
+-- What an arrival resolves to is a turn of the world.
 use Rattle.bfd_instance.proofs.Common.{◌≡◌, ◌∙◌, ap, sym, rules, carried_out, world_of, table_of, configs_of, arriving}
 use Rattle.bfd_session.specs.declared.event.Event.TheVariants.{Packet, Returned}
 use Rattle.bfd_session.specs.Arrivals.{Reflected, comes_to}

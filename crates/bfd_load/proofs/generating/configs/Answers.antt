@@ -1,4 +1,4 @@
--- One session more is made, and at the end all are.
+-- One more session is made, and at the end all are.
 use Rattle.std.proofs.Common.{◌+◌, ◌-◌, ◌++◌, ◌∙◌, [], ◌∷◌, map, ap, arith}
 use Rattle.std.specs.List.{range_with_len}
 use Rattle.bfd_load.specs.Load as load

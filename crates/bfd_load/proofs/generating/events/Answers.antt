@@ -1,4 +1,4 @@
--- One tick more has its events, and at the end all have.
+-- One more tick has its events, and at the end all have.
 use Rattle.std.proofs.Common.{◌≡◌, ◌+◌, ◌-◌, ◌++◌, ◌∙◌, [], ◌∷◌, ap, append_assoc, arith, rules}
 use Rattle.bfd_script.specs.declared.line.entries.Line.TheVariants.{Tick}
 use Rattle.bfd_load.specs.Load as load

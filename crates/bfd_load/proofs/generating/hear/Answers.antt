@@ -1,4 +1,4 @@
--- One session more has heard its packet.
+-- One more session has heard its packet.
 use Rattle.std.proofs.Common.{arith}
 use Rattle.bfd_load.proofs.Hearing.{first, heard_one}
 use Rattle.bfd_load.proofs.generating.hear.Goals as goal

@@ -1,4 +1,4 @@
--- One shard more is counted.
+-- One more shard is counted.
 use Rattle.bfd_replay.proofs.WorkerCommon.{rules, ◌≡◌, ◌<◌, ◌∙◌, ap, arith, length, slice_index_or, sum_by, one_up}
 use Rattle.bfd_replay.proofs.Summing.{any, kept_more, sum_step}
 use Rattle.bfd_replay.proofs.counting.up_all.Goals as goal

@@ -2,7 +2,7 @@ use Rattle.bfd_script.proofs.Common.{arith, nat_tests, drop}
 use Rattle.bfd_script.proofs.Nibbles.{encode_back, some_hex}
 use Rattle.bfd_script.proofs.report.put_hex.Goals as goal
 
--- the digits of one run more
+-- the digits of one more run
 pub loop-before-preserved : goal.loop-before-preserved
 loop-before-preserved c = (
   omega (arith, c.loop-before.invariant.0, c.put-start.ensures.start, c.in-Some.ensures.cases.2),

@@ -1,4 +1,4 @@
--- One pass more is taken in.
+-- One more pass is joined.
 use Rattle.bfd_serve.proofs.Common.{◌≡◌, append_assoc, append-nil, nil_from_length, IsOther, ◌∷◌, [], all_next}
 use Rattle.bfd_serve.proofs.Joins.{taken_in_none, taken_in_more}
 use Rattle.bfd_serve.proofs.passes.join_all.Goals as goal

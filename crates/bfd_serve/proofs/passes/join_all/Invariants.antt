@@ -1,4 +1,4 @@
--- The passes so far are taken in.
+-- The passes so far are joined.
 use Rattle.bfd_serve.proofs.Common.{◌≡◌, ◌++◌}
 use Rattle.bfd_serve.proofs.Joins.{AreTakenIn}
 use Rattle.bfd_serve.proofs.passes.join_all.Given as goal

@@ -1,4 +1,4 @@
--- One pass more is split off; or those that were made are joined again.
+-- One more pass is split off; or those that were made are joined again.
 use Rattle.bfd_serve.proofs.Common.{rules, arith}
 use Rattle.bfd_serve.proofs.Splits.{split_none, split_more, split_refused, others_of, unserved}
 use Rattle.bfd_serve.proofs.passes.split_all.Goals as goal

@@ -1,4 +1,4 @@
--- One output more, or the outputs up to one for which there was no memory.
+-- One more output, or the outputs up to one for which there was no memory.
 use Rattle.bfd_serve.proofs.Common.{rules, ◌≡◌, drop, slice_index_or, subst, sym, arith, LinkTold, datagrams, HasSent, ℕ}
 use Rattle.bfd_serve.proofs.Packets.{sent_none, sent_upto, sent_cut, sent_whole, some_left}
 use Rattle.bfd_serve.proofs.sending.send_all.Goals as goal

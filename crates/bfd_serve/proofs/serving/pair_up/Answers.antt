@@ -1,4 +1,4 @@
--- One job more.
+-- One more job.
 use Rattle.bfd_serve.proofs.Common.{◌<◌, ◌++◌, length, map, ap, sym, ◌∙◌, append_assoc, length-append, arith, map-append, length-map}
 use Rattle.bfd_serve.proofs.Common.{Memory, pass_of, link_of, ◌∷◌, [], Job}
 use Rattle.bfd_serve.proofs.Moves.{first_over}

@@ -1,4 +1,4 @@
--- One job more is taken apart.
+-- One more job is taken apart.
 use Rattle.bfd_serve.proofs.Common.{map, ap, sym, ◌∙◌, append_assoc, append-nil, arith, sum, map-append, sum_by_push, pass_of, link_of}
 use Rattle.bfd_serve.proofs.Common.{end_of_job, lost_of, ◌∷◌, []}
 use Rattle.bfd_serve.proofs.serving.take_apart.Goals as goal

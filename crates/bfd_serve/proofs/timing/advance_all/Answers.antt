@@ -1,4 +1,4 @@
--- One shard more, or the shards up to one that stopped.
+-- One more shard, or the shards up to one that stopped.
 use Rattle.bfd_serve.proofs.Common.{◌≡◌, ◌+◌, ◌-◌, length, ap, refl, ◌∙◌, arith, advances, IsStopped, ℕ}
 use Rattle.bfd_serve.proofs.Doing.{whole_none, whole_then, stopped_then, stopped_less}
 use Rattle.bfd_serve.proofs.Ordering.{advances_next, advances_rest}

@@ -1,4 +1,4 @@
--- One order more is due, or none.
+-- One more order is due, or none.
 use Rattle.bfd_serve.proofs.Common.{rules, arith}
 use Rattle.bfd_serve.proofs.Ordering.{due_next, due_stop, due_none}
 use Rattle.bfd_serve.proofs.timing.due_by.Goals as goal

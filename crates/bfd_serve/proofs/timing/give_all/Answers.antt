@@ -1,4 +1,4 @@
--- One order more, or the orders up to one that stopped.
+-- One more order, or the orders up to one that stopped.
 use Rattle.bfd_serve.proofs.Common.{rules, ◌+◌, take, drop, orders_acts, IsStopped}
 use Rattle.bfd_serve.proofs.Doing.{whole_then, stopped_then, stopped_less}
 use Rattle.bfd_serve.proofs.Ordering.{orders_next, orders_rest}

@@ -1,4 +1,4 @@
--- Where a packet with F tells the state, nothing more is told; and a packet that tells nothing new leaves a sound session.
+-- If a packet with F reports the state, nothing more is reported; and a packet with nothing new leaves a sound session.
 use Rattle.bfd_session.proofs.Common.{◌≡◌, ◌≤◌, ◌+◌, ℕ, Bool, true, false, refl, arith}
 use Rattle.bfd_session.proofs.pair.runs.Goals as goal
 

@@ -1,4 +1,4 @@
--- What the event's parts give, from outputs before it, is the event; the answer is made of the flow after settling.
+-- What the event's parts give, from outputs before it, is the event; the answer is built from the flow after settling.
 use Rattle.bfd_session.proofs.Common.{◌∙◌, tail_of}
 use Rattle.bfd_session.proofs.Front.{step_vars, step_outs, plain_step, reply_law}
 use Rattle.bfd_session.proofs.Machines.{tail_with}

@@ -1,4 +1,4 @@
--- The session at the place takes the event.
+-- The session at the place accepts the event.
 use Rattle.bfd_shard.proofs.Common.{sym, ap, Running}
 use Rattle.bfd_shard.proofs.own.step_at.Goals as goal
 

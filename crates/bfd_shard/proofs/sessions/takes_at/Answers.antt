@@ -1,4 +1,4 @@
--- The session at a place takes the event exactly where its configuration says so.
+-- The session at a place accepts the event exactly when its configuration says so.
 use Rattle.bfd_shard.proofs.Common.{◌≡◌, ◌<◌, ℕ, zero, suc, length, get_or, [], ◌∷◌, arith, Bool, true, false, List, ap, sym, ◌∙◌, Option}
 use Rattle.bfd_shard.proofs.Common.{None, Some, IsTrue, ◌↔◌, slice_get, nat_lt, unwrap_or, option_map, SessionConfig, Event, Running}
 use Rattle.bfd_shard.proofs.Common.{configs_of, CanTake, IsTaken, nat_tests, slice_get-map, slice_get_past}

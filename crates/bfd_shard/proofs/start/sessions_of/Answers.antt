@@ -1,4 +1,4 @@
--- One session more.
+-- One more session.
 use Rattle.bfd_shard.proofs.Common.{◌≡◌, ◌∷◌, [], rules, append_assoc, subst, AreFit}
 use Rattle.bfd_shard.proofs.Setting.{sound_more, start_more}
 use Rattle.bfd_shard.proofs.start.sessions_of.Goals as goal

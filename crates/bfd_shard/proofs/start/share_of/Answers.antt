@@ -1,4 +1,4 @@
--- One session more, and at the end all.
+-- One more session, and at the end all.
 use Rattle.bfd_shard.proofs.Common.{◌+◌, map, refl, ap, ◌∙◌, arith, started, IsFit}
 use Rattle.std.proofs.lemmas.List.Elements.{All-from_recursion}
 use Rattle.bfd_shard.proofs.Setting.{sound_more}

@@ -1,4 +1,4 @@
--- One poll more.
+-- One more poll.
 use Rattle.bfd_thread_tests.proofs.Worked.{grown_then}
 use Rattle.bfd_thread_tests.proofs.clients.polls.Goals as goal
 

@@ -1,4 +1,4 @@
--- After each poll the client was told what was seen.
+-- After each poll the client has received what was seen.
 use Rattle.bfd_engine.specs.Engines.{IsOf, AllThere}
 use Rattle.bfd_engine.specs.Calls.{seen_at}
 use Rattle.bfd_thread_tests.specs.Calling.{HasGrown}

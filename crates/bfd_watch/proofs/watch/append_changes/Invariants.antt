@@ -1,4 +1,4 @@
--- With the changes of the outputs that are left, those told so far are all; and there is room for as many.
+-- With the changes of the outputs that are left, those reported so far are all; and there is room for as many.
 use Rattle.std.proofs.Common.{◌≡◌, ◌+◌, ◌≤◌, ◌++◌, length, drop, vec_len, vec_capacity}
 use Rattle.bfd_watch.specs.Changes.{changes_in}
 use Rattle.bfd_watch.proofs.watch.append_changes.Given as goal

@@ -1,4 +1,4 @@
--- What the sink took is a prefix of the report.
+-- What the sink accepted is a prefix of the report.
 use Rattle.bfdd.proofs.output.write_text.Goals as goal
 
 pub returns-in-Ok-clause-front : goal.returns-in-Ok-clause-front

@@ -1,4 +1,4 @@
--- Out of memory is told only where the reflector has no fault.
+-- Out of memory is reported only when the reflector has no fault.
 use Rattle.bfd_c.proofs.Common.{sym, ◌∙◌}
 use Rattle.bfd_session.specs.Kinds.{configs_of}
 use Rattle.bfd_session.specs.Rows.{row_of_reflector, table_of}

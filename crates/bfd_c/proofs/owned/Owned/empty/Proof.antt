@@ -1,4 +1,4 @@
--- A null pointer beside the allocator owns nothing.
+-- A null pointer with an allocator owns nothing.
 use Rattle.bfd_c.proofs.Common.{None, lit<, refl, subst, Ura, Val, vstruct, vcons, vnil, SProp, ent, emp, ftrue, fsep, Memory, Routine}
 use Rattle.bfd_c.proofs.Common.{WpFn, Tables, Logic, Fun, tables, tables_of, WpFn-mono, Item, ‵, ◌⊛◌, ◌$◌, ◌∵◌, !, qed, by, move, join}
 use Rattle.bfd_c.proofs.Common.{split, fsplit, fjoin, fpack, feq_i, suffices, done, agg, lit, no_more, and_then, returns, enter, alloc_all}

@@ -1,4 +1,4 @@
--- The discriminator is there under a name of either sort.
+-- The discriminator is present under a name of either sort.
 use Rattle.bfd_demux.proofs.Common.{◌∙◌, Session, Reflector}
 use Rattle.bfd_demux.specs.contracts.name.NameOrd.TheImpl as name_order
 use Rattle.bfd_demux.proofs.Indexing.{discr_first, discr_second, known_by}

@@ -1,4 +1,4 @@
--- No name is the row's, and none of the addresses, so both lists take it in their order.
+-- No name is the row's, and none of the addresses, so both lists accept it in their order.
 use Rattle.bfd_demux.proofs.Common.{◌∙◌, ap, refl, sym, Name, Option, Port, how_many, names_a_session}
 use Rattle.bfd_demux.specs.contracts.name.NameOrd.TheImpl as name_order
 use Rattle.bfd_demux.specs.contracts.row.RowKindOrd.TheImpl as kind_order

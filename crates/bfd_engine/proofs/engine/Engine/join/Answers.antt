@@ -1,4 +1,4 @@
--- The other's pass is there until its shard is joined.
+-- The other's pass is present until its shard is joined.
 use Rattle.bfd_engine.proofs.Common.{length, ap, arith}
 use Rattle.bfd_engine.proofs.Gluing.{theirs_there, glue_more, all_joined}
 use Rattle.bfd_engine.proofs.engine.Engine.join.Goals as goal

@@ -1,4 +1,4 @@
--- The pass that took in the other is put back in its place.
+-- The pass that the other joined is put back in its place.
 use Rattle.bfd_engine.proofs.Common.{get_or, ◌≡◌, ◌∙◌, sym, ap, subst, arith, get_or_from_slice_get, Knows, IsOf, AllThere, GluesAt}
 use Rattle.bfd_engine.proofs.Places.{put_back, of_set, none_set, there_set}
 use Rattle.bfd_engine.proofs.Lending.{still}

@@ -1,4 +1,4 @@
--- An arrival comes to what the table says of it.
+-- An arrival resolves to what the table says of it.
 use Rattle.bfd_engine.proofs.Common.{subst}
 use Rattle.bfd_session.specs.declared.coming.Coming.TheVariants.{Discarded, Answered, Own}
 use Rattle.bfd_engine.proofs.Comings.{Comes, destination, own_event, discarded_done, answered_done, own_done}

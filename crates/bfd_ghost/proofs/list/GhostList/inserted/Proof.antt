@@ -1,4 +1,4 @@
--- The same bytes, none; its list has one element more. Assumes `Logic`.
+-- The same bytes, none; its list has one more element. Assumes `Logic`.
 use Rattle.std.proofs.Common.{List, [], ◌∷◌, ◌++◌, refl}
 use seplogic.Ra.Ura.{Ura}
 use mir.Syntax.{Fn, Args, a_type}

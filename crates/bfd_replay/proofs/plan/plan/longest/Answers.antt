@@ -1,4 +1,4 @@
--- One queue more is no longer.
+-- One more queue is no longer.
 use Rattle.bfd_replay.proofs.PlanCommon.{rules, [], length, ap, ◌∙◌, arith, get_or_default}
 use Rattle.bfd_replay.proofs.Planning.{bound_more}
 use Rattle.bfd_replay.proofs.plan.plan.longest.Goals as goal

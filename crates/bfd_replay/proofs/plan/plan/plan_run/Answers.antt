@@ -1,4 +1,4 @@
--- One line more is planned.
+-- One more line is planned.
 use Rattle.bfd_replay.proofs.PlanCommon.{length-map}
 use Rattle.bfd_replay.proofs.Planning.{plan_more}
 use Rattle.bfd_replay.proofs.plan.plan.plan_run.Goals as goal

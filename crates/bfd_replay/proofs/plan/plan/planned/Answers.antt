@@ -1,4 +1,4 @@
--- A run more is put behind those before it.
+-- One more run is put behind those before it.
 use Rattle.bfd_replay.proofs.PlanCommon.{rules, arith, ap, ◌∙◌, reverse-reverse, length-map}
 use Rattle.bfd_replay.proofs.Parting.{put_start, put_more, put_end, put_wide}
 use Rattle.bfd_demux.specs.Rows.{build_fault}

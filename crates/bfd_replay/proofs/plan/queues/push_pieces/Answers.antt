@@ -1,4 +1,4 @@
--- A piece more behind one shard's queue.
+-- One more piece behind one shard's queue.
 use Rattle.bfd_replay.proofs.PlanCommon.{ap, arith, length, map}
 use Rattle.bfd_replay.proofs.Parting.{behind_next}
 use Rattle.bfd_replay.proofs.plan.queues.push_pieces.Goals as goal

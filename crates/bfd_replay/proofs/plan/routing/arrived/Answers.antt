@@ -1,4 +1,4 @@
--- What an arrival comes to is what its line is.
+-- What an arrival resolves to is what its line is.
 use Rattle.bfd_replay.proofs.PlanCommon.{ap, sym, happening_by}
 use Rattle.bfd_session.specs.Arrivals.{comes_to}
 use Rattle.bfd_session.specs.Rows.{table_of}

@@ -1,4 +1,4 @@
--- A run more was cut, and so many lines fewer are left.
+-- One more run was cut, and so many lines fewer are left.
 use Rattle.std.proofs.Common.{◌*◌, ◌/◌}
 use Rattle.bfd_replay.proofs.PlanCommon.{rules, ◌≡◌, ◌+◌, ◌<◌, ◌≤◌, ◌∙◌, ℕ, [], length, arith, ap, reverse, refl, sym, subst}
 use Rattle.bfd_replay.proofs.PlanCommon.{reverse-append, AreRuns, common_steps}

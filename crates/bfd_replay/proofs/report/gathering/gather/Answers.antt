@@ -1,4 +1,4 @@
--- One piece more is taken, and at the end all are.
+-- One more piece is taken, and at the end all are.
 use Rattle.bfd_replay.proofs.ReportCommon.{arith, map-set, first_key, head_key}
 use Rattle.bfd_replay.proofs.Taking.{go, gone}
 use Rattle.bfd_replay.proofs.report.gathering.gather.Goals as goal

@@ -1,4 +1,4 @@
--- One part more is looked at.
+-- One more part is looked at.
 use Rattle.bfd_replay.proofs.Scan.{best_some, higher, kept, lower}
 use Rattle.bfd_replay.proofs.report.gathering.least.Goals as goal
 use Rattle.bfd_replay.proofs.report.gathering.least.Goals.{in-Some+then-rank-lowest, in-Some+else-rank-lowest, in_default}

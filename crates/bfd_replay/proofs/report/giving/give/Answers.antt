@@ -1,4 +1,4 @@
--- One piece more is taken, and given on or kept; at the end all are.
+-- One more piece is taken, and passed on or kept; at the end all are.
 use Rattle.bfd_replay.proofs.ReportCommon.{◌∙◌, List, map-set, set, Dealt, IsSpread, first_key, head_key}
 use Rattle.bfd_replay.proofs.PiecesGiven.{Giving, all_given, give_more, given_broken, given_front, take_more}
 use Rattle.bfd_replay.proofs.report.giving.give.Given.{Over}

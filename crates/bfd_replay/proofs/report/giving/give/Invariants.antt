@@ -1,4 +1,4 @@
--- What is left of the pieces is dealt out to the parts; the others were taken, and given or kept. No write failed.
+-- What is left of the pieces is dealt out to the parts; the others were taken, and passed on or kept. No write failed.
 use Rattle.bfd_replay.proofs.ReportCommon.{◌≡◌, List, length, map, Dealt, IsSpread, first_key, keys, sum_by}
 use Rattle.bfd_replay.proofs.PiecesGiven.{Giving}
 use Rattle.bfd_replay.proofs.report.giving.give.Given as goal

@@ -1,4 +1,4 @@
--- Before the part's text was taken the sink took nothing.
+-- Before the part's text was taken the sink accepted nothing.
 use Rattle.bfd_replay.proofs.ReportCommon.{◌++◌, texts}
 use Rattle.bfd_replay.proofs.Written.{took_nothing}
 use Rattle.bfd_replay.proofs.report.giving.give_sole.Goals as goal

@@ -1,4 +1,4 @@
--- The sink took the texts before this one, and a prefix of it.
+-- The sink accepted the texts before this one, and a prefix of it.
 use Rattle.bfd_replay.proofs.Written.{each_front}
 use Rattle.bfd_replay.proofs.report.output.write_each.Goals as goal
 

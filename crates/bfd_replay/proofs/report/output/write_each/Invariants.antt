@@ -1,4 +1,4 @@
--- The texts so far were taken.
+-- The texts so far were accepted.
 use Rattle.bfd_replay.proofs.ReportCommon.{◌≡◌, Appends, flat_map, take}
 use Rattle.bfd_replay.proofs.report.output.write_each.Given as goal
 

@@ -1,4 +1,4 @@
--- What is left was taken so far as the sink took it.
+-- What is left is written as far as the sink accepts it.
 use Rattle.bfd_replay.proofs.ReportCommon.{◌≡◌, ◌++◌, done_line}
 use Rattle.std.proofs.Common.{rules}
 use Rattle.bfd_replay.proofs.Written.{took_nothing}

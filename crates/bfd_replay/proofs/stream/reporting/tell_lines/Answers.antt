@@ -1,4 +1,4 @@
--- One line more is told.
+-- One more line is reported.
 use Rattle.bfd_replay.proofs.StreamCommon.{◌∙◌, arith, refl}
 use Rattle.std.proofs.Common.{rules}
 use Rattle.std.proofs.lemmas.List.{reverse-reverse}

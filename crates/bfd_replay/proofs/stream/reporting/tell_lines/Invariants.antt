@@ -1,4 +1,4 @@
--- The lines so far were told; those that are left stand in reverse.
+-- The lines so far were reported; those that are left stand in reverse.
 use Rattle.bfd_replay.proofs.StreamCommon.{◌≡◌, ◌≤◌, ◌+◌, ◌*◌, ℕ, length, reverse}
 use Rattle.bfd_engine.specs.Engines.{IsOf, AllThere, configs_at}
 use Rattle.bfd_replay.specs.Turning.{HasKept}

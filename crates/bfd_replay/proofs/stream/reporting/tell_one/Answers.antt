@@ -1,4 +1,4 @@
--- The line's text is told, and nothing was taken where it came to none.
+-- The line's text is reported, and the sink accepted nothing if there was none.
 use Rattle.bfd_replay.proofs.StreamCommon.{◌+◌, ◌++◌, ◌∷◌, subst, lines_from, happening, took_nothing}
 use Rattle.bfd_shard.specs.History.{last_tick, runs}
 use Rattle.bfd_session.specs.Alone.{Outcome}

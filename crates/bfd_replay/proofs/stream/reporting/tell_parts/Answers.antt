@@ -1,4 +1,4 @@
--- What the shards' parts tell is the tick's lines.
+-- What the shards' parts report is the tick's lines.
 use Rattle.bfd_replay.proofs.StreamCommon.{◌+◌, ◌++◌, ◌∷◌, lines_from, took_nothing}
 use Rattle.bfd_shard.specs.History.{last_tick, runs}
 use Rattle.bfd_shard.specs.declared.entry.ShardEvent.TheVariants.{Tick}

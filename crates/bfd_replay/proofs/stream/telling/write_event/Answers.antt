@@ -1,4 +1,4 @@
--- Out of memory, nothing was taken.
+-- Out of memory, the sink accepted nothing.
 use Rattle.bfd_replay.proofs.StreamCommon.{◌++◌, event_lines, took_nothing}
 use Rattle.bfd_replay.proofs.stream.telling.write_event.Goals as goal
 

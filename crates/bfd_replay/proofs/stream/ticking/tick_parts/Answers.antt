@@ -1,4 +1,4 @@
--- One shard more.
+-- One more shard.
 use Rattle.std.proofs.Common.{◌+◌, arith, refl, rules, subst}
 use Rattle.bfd_replay.specs.Turning.{HaveToldTick}
 use Rattle.bfd_replay.proofs.Going.{ticked_none, ticked_on, tick_kept, tick_refused, tick_told}

@@ -1,4 +1,4 @@
--- The shards so far had the tick, and each told what it gave there.
+-- The shards so far had the tick, and each reported what it gave there.
 use Rattle.std.proofs.Common.{◌≡◌, length}
 use Rattle.bfd_engine.specs.Engines.{IsOf, AllThere}
 use Rattle.bfd_replay.specs.Turning.{HaveToldTick}

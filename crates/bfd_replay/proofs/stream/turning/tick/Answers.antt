@@ -1,4 +1,4 @@
--- One shard more.
+-- One more shard.
 use Rattle.std.proofs.Common.{arith, refl, rules}
 use Rattle.bfd_replay.proofs.Going.{one_gave, tick_first, ticked_none, ticked_on, tick_refused, tick_kept}
 use Rattle.bfd_replay.proofs.stream.turning.tick.Goals as goal

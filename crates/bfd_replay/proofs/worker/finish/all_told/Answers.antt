@@ -1,4 +1,4 @@
--- One worker more ended with parts.
+-- One more worker ended with parts.
 use Rattle.bfd_replay.proofs.WorkerCommon.{◌≡◌, ◌∷◌, [], length, append_assoc, append-nil, nil_from_length, seen_as}
 use Rattle.bfd_replay.proofs.Ordering.{mapped_here, ok_more}
 use Rattle.bfd_replay.proofs.worker.finish.all_told.Goals as goal

@@ -1,4 +1,4 @@
--- One part more.
+-- One more part.
 use Rattle.bfd_replay.proofs.WorkerCommon.{◌≡◌, ◌∙◌, ◌∷◌, [], rules, length, map, arith, ap, length-append, length-map}
 use Rattle.bfd_replay.proofs.Ordering.{order_none, order_more, order_end, order_last}
 use Rattle.bfd_replay.proofs.worker.finish.in_order.Goals as goal

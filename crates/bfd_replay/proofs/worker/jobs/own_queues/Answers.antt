@@ -1,4 +1,4 @@
--- One queue more.
+-- One more queue.
 use Rattle.bfd_replay.proofs.WorkerCommon.{rules}
 use Rattle.bfd_replay.proofs.Owning.{own_none, own_more}
 use Rattle.bfd_replay.proofs.worker.jobs.own_queues.Goals as goal

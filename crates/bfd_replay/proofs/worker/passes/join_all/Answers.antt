@@ -1,4 +1,4 @@
--- One pass more is taken in.
+-- One more pass is joined.
 use Rattle.bfd_replay.proofs.WorkerCommon.{◌≡◌, ◌∷◌, [], ap, append_assoc, append-nil, nil_from_length, Work, seen_as}
 use Rattle.bfd_replay.proofs.Ordering.{told_more}
 use Rattle.bfd_replay.proofs.Joining.{joined_none, joined_more, next_here}

@@ -1,4 +1,4 @@
--- The passes so far are taken in.
+-- The passes so far are joined.
 use Rattle.bfd_replay.proofs.WorkerCommon.{◌≡◌, ◌++◌, map, AllJobsJoined, seen_as}
 use Rattle.bfd_replay.proofs.worker.passes.join_all.Given as goal
 

@@ -1,4 +1,4 @@
--- One shard more.
+-- One more shard.
 use Rattle.bfd_replay.proofs.WorkerCommon.{rules, ◌≡◌, ◌<◌, ◌++◌, ◌∙◌, ◌∷◌, [], List, ap, length, append_assoc, length-append, arith}
 use Rattle.bfd_replay.proofs.Courses.{over_end, over_finished, over_more, over_left, stopped_here, next_queue}
 use Rattle.bfd_replay.proofs.worker.working.all_shards.Goals as goal

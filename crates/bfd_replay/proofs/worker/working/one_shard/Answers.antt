@@ -1,4 +1,4 @@
--- One event more of the queue.
+-- One more event of the queue.
 use Rattle.bfd_replay.proofs.WorkerCommon.{subst, AreMet}
 use Rattle.bfd_replay.proofs.Courses.{queue_more, stopped_amid}
 use Rattle.bfd_replay.proofs.worker.working.one_shard.Goals as goal

@@ -2,7 +2,7 @@ use Rattle.bfd_script.proofs.FieldsCommon.{arith}
 use Rattle.bfd_script.proofs.Nibbles.{rest_more, run_more}
 use Rattle.bfd_script.proofs.fields.digits.decode_runs.Goals as goal
 
--- the bytes of one run more
+-- the bytes of one more run
 pub loop-run-preserved : goal.loop-run-preserved
 loop-run-preserved c = (
   omega (arith, c.loop-run.invariant.0, c.put_run.ensures.long, c.in-Some.ensures.cases.2),

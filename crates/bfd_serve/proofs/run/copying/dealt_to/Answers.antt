@@ -1,4 +1,4 @@
--- One session more, and at the end all.
+-- One more session, and at the end all.
 use Rattle.bfd_serve.proofs.RunCommon.{◌+◌, ◌++◌, ◌∷◌, [], refl, ap, ◌∙◌, arith}
 use Rattle.bfd_serve.proofs.Dealing.{share_more, share_over}
 use Rattle.bfd_shard.proofs.Sharing.{share_from}

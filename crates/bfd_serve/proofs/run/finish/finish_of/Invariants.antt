@@ -1,4 +1,4 @@
--- The ends from a place on are told.
+-- The finish is that of the ends from a place on.
 use Rattle.bfd_serve.proofs.RunCommon.{◌≡◌, ◌≤◌, length, drop, All, finish_from, HadMemory}
 use Rattle.bfd_serve.proofs.run.finish.finish_of.Given as goal
 

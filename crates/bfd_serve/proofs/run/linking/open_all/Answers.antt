@@ -1,4 +1,4 @@
--- One link more is open, or one can't be.
+-- One more link is open, or one can't be.
 use Rattle.bfd_serve.proofs.RunCommon.{◌+◌, ◌∙◌, ap, sym, IsUncalled}
 use Rattle.std.proofs.Common.{rules}
 use Rattle.std.proofs.lemmas.List.Elements.{All-push}

@@ -1,4 +1,4 @@
--- One link more is shut, by its number.
+-- One more link is shut, by its number.
 use Rattle.bfd_serve.proofs.RunCommon.{◌++◌, ◌∷◌, [], ap, arith, ◌∙◌, PortsTold}
 use Rattle.std.proofs.Common.{append_assoc, length-append}
 use Rattle.bfd_serve.proofs.Theirs.{next_number, shut_more}

@@ -1,4 +1,4 @@
--- One shard more.
+-- One more shard.
 use Rattle.bfd_serve.proofs.RunCommon.{IsShard}
 use Rattle.bfd_serve.proofs.Closings.{one_more}
 use Rattle.bfd_serve.proofs.run.running.keep.Goals as goal

@@ -1,4 +1,4 @@
--- One shard more, and at the end all.
+-- One more shard, and at the end all.
 use Rattle.bfd_serve.proofs.ServedTextCommon.{rules, ◌≡◌, ◌∙◌, ◌∷◌, length, map, sym, ap, arith, nil_from_length, shard_sent}
 use Rattle.bfd_serve.proofs.Shards.{next_made, next_fit, none_made, some_left, other_parts, text_next, sum_next, whole}
 use Rattle.bfd_serve.proofs.served_text.serving.served.Goals as goal

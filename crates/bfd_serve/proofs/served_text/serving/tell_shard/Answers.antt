@@ -1,4 +1,4 @@
--- The shard is made anew of the configurations that the other was made with.
+-- The shard is rebuilt from the configurations that the other was made with.
 use Rattle.bfd_serve.proofs.ServedTextCommon.{rules, ◌∙◌, ap, configs_of}
 use Rattle.bfd_session.proofs.Starting.{started_configs}
 use Rattle.bfd_serve.proofs.Starting.{history_same, shard_told}

@@ -1,4 +1,4 @@
--- One entry more, and at the end all.
+-- One more entry, and at the end all.
 use Rattle.bfd_serve.proofs.ServedTextCommon.{rules, take, drop, length-drop, arith, nil_from_length, configs_of}
 use Rattle.bfd_serve.proofs.Entries.{IsNext, can_next, taken_more, text_next, sent_next, text_over, sent_over}
 use Rattle.bfd_serve.proofs.served_text.telling.tell_entries.Goals as goal

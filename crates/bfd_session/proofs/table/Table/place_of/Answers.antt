@@ -1,4 +1,4 @@
--- What every session takes may be given to the one that is found.
+-- What every session accepts may be given to the one that is found.
 use Rattle.bfd_session.proofs.Common.{◌≡◌, ℕ, List, Option, None, Some, IfSome, SessionConfig, Event, CanTake}
 use Rattle.bfd_session.specs.Reaching.{IsTaken}
 use Rattle.bfd_session.specs.Rows.{place_of}

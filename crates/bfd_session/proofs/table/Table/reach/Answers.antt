@@ -1,4 +1,4 @@
--- An arrival comes to what it is for, or is discarded by the first test that it fails.
+-- An arrival resolves to what it is for, or is discarded by the first test that it fails.
 use Rattle.bfd_session.proofs.Common.{◌≡◌, ◌∙◌, List, None, Some, refl, ap, Arrival, Test, Row, first_table_failing, target_of, table_of}
 use Rattle.std.proofs.Common.{ap₂}
 use Rattle.bfd_demux.specs.declared.target.Target.{Target}
@@ -7,7 +7,7 @@ use Rattle.bfd_session.specs.Tables.{Members}
 use Rattle.bfd_session.proofs.Reach.{reaches}
 use Rattle.bfd_session.proofs.table.Table.reach.Goals as goal
 
--- one that fails no test comes to its target
+-- one that fails no test resolves to its target
 passed : (rows : List Row) (arrival : Arrival) {target : Target} → None ≡ first_table_failing rows arrival
     → Some target ≡ target_of rows arrival
     → coming_to (Some target) arrival ≡ comes_to rows arrival

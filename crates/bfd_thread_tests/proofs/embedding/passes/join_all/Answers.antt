@@ -1,4 +1,4 @@
--- One pass more is taken in.
+-- One more pass is joined.
 use Rattle.std.proofs.Common.{◌≢◌, ◌∷◌, [], refl, append_assoc, arith}
 use Rattle.bfd_thread_tests.specs.Ready.{number_of}
 use Rattle.bfd_thread_tests.proofs.Joins.{all_made_next, joined_more, map_more}

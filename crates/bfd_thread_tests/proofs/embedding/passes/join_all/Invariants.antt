@@ -1,4 +1,4 @@
--- The passes so far are taken in.
+-- The passes so far are joined.
 use Rattle.std.proofs.Common.{◌≡◌, ◌≤◌, ◌++◌, length, map, vec_capacity}
 use Rattle.bfd_thread_tests.specs.Joining.{HasJoined}
 use Rattle.bfd_thread_tests.proofs.embedding.passes.join_all.Given as goal

@@ -1,4 +1,4 @@
--- One call more, and what was seen of it.
+-- One more call, and what was seen of it.
 use Rattle.std.proofs.Common.{rules, ◌≡◌, ◌++◌, ◌∷◌, [], refl, subst}
 use Rattle.bfd_engine.specs.Calls.{IsDone}
 use Rattle.bfd_thread_tests.specs.declared.embedding.threads.Saw.{Saw}

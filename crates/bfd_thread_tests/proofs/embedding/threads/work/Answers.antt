@@ -1,4 +1,4 @@
--- One call more, and the last of them.
+-- One more call, and the last of them.
 use Rattle.std.proofs.Common.{refl, arith}
 use Rattle.bfd_thread_tests.proofs.Worked.{worked_same, worked_then}
 use Rattle.bfd_thread_tests.proofs.embedding.threads.work.Goals as goal

@@ -1,4 +1,4 @@
--- The changes of one entry more.
+-- The changes of one more entry.
 use Rattle.std.proofs.Common.{rules}
 use Rattle.bfd_watch.proofs.Telling.{whole_more}
 use Rattle.bfd_watch.proofs.watch.Watch.take.Goals as goal

@@ -1,4 +1,4 @@
--- One session more, and at the end all.
+-- One more session, and at the end all.
 use Rattle.std.proofs.Common.{◌+◌, ◌++◌, ◌∷◌, [], refl, ap, ◌∙◌, arith}
 use Rattle.bfd_shard.proofs.Sharing.{share_from}
 use Rattle.bfdd.proofs.Copies.{share_more, share_over}

@@ -1,4 +1,4 @@
--- One shard more, and at the end all.
+-- One more shard, and at the end all.
 use Rattle.std.proofs.Common.{rules, [], refl, subst}
 use Rattle.bfdd.specs.Following.{IsUntaken}
 use Rattle.bfd_replay.proofs.Going.{passed_on}

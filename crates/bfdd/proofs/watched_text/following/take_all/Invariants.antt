@@ -1,4 +1,4 @@
--- With the entries that are left, those taken so far are all, and so is what they tell.
+-- With the entries that are left, those taken so far are all, and so is what they report.
 use Rattle.std.proofs.Common.{◌≡◌, ◌++◌}
 use Rattle.bfd_engine.specs.Reads.{AreGiven}
 use Rattle.bfdd.specs.Following.{told_after}

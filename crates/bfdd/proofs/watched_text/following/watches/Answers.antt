@@ -1,4 +1,4 @@
--- A watch more.
+-- One more watch.
 use Rattle.bfd_shard.proofs.Sharing.{all_share, few_share}
 use Rattle.bfd_session.specs.Step.{IsFit}
 use Rattle.std.proofs.Common.{[], ap, ◌∙◌, arith}

@@ -1,4 +1,4 @@
--- One event more is told, and at the end the whole is.
+-- One more event is reported, and at the end the whole is.
 use Rattle.std.proofs.Common.{◌≡◌, List, ◌∷◌, length, ap, sym, ◌∙◌, arith, rules}
 use Rattle.std.proofs.lemmas.List.{nil_from_length}
 use Rattle.bfd_watch.specs.declared.change.Change.{Change}

@@ -1,4 +1,4 @@
--- What was told so far, and what the events that are left will tell, are the whole text, if caller 0 is the only one.
+-- What was reported so far, and what the events that are left will report, are the whole text, if caller 0 is the only one.
 use Rattle.std.proofs.Common.{◌≡◌, ◌≤◌, ◌+◌, ◌*◌, ℕ, length}
 use Rattle.bfd_engine.specs.Engines.{IsOf, AllThere, configs_at}
 use Rattle.bfd_replay.specs.Turning.{HasKept}

@@ -1,4 +1,4 @@
--- The engine is opened for the script, and closed with no pass beside caller 0's.
+-- The engine is opened for the script, and closed with no pass but caller 0's.
 use Rattle.std.proofs.Common.{rules, ◌≡◌, ◌∙◌, Ok, length, map, ap, arith}
 use Rattle.std.proofs.lemmas.Result.{IfErr-weaker, IfOk-at_ok, IfOk-weaker}
 use Rattle.bfd_session.specs.Step.{started}

@@ -1,4 +1,4 @@
--- The session and the record at a place are there, and of one kind.
+-- The session and the record at a place are present, and of one kind.
 use Rattle.std.proofs.Common.{◌≡◌, ℕ, List, Some, refl}
 use Rattle.std.specs.Prelude.{slice_get}
 use Rattle.bfd_session.specs.Kinds.{Running}

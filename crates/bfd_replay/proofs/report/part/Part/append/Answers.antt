@@ -1,4 +1,4 @@
--- All that another part tells was told.
+-- All that another part reports was reported.
 use Rattle.bfd_replay.proofs.Marks.{both_by, both_told}
 use Rattle.bfd_replay.proofs.report.part.Part.append.Goals as goal
 

@@ -1,4 +1,4 @@
--- A piece more was told.
+-- One more piece was reported.
 use Rattle.bfd_replay.proofs.ReportCommon.{◌∷◌, [], whole_piece}
 use Rattle.bfd_replay.proofs.Marks.{part_by, told_by, single, whole_has}
 use Rattle.bfd_replay.proofs.report.part.Part.tell_event.Goals as goal

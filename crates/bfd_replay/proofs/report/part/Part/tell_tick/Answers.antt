@@ -1,4 +1,4 @@
--- The pieces of a tick were told.
+-- The pieces of a tick were reported.
 use Rattle.bfd_replay.proofs.ReportCommon.{map, item_piece}
 use Rattle.bfd_replay.proofs.Marks.{part_by, told_by, items_have}
 use Rattle.bfd_replay.proofs.report.part.Part.tell_tick.Goals as goal

@@ -1,4 +1,4 @@
--- The parts' text was given on.
+-- The parts' text was passed on.
 use Rattle.bfd_replay.proofs.StreamCommon.{◌++◌, Telling, TookFront, ap, subst}
 use Rattle.bfd_replay.specs.Spread.{dealt_text}
 use Rattle.bfd_replay.proofs.stream.telling.Told.gather.Goals as goal

@@ -1,11 +1,11 @@
--- The texts are the report, and where memory ran out nothing was taken.
+-- The texts are the report, and if memory ran out the sink accepted nothing.
 use Rattle.bfd_replay.proofs.WorkerCommon.{refl, subst}
 use Rattle.bfd_replay.proofs.Reporting.{cause_as}
 use Rattle.bfd_script.specs.Report.{report}
 use Rattle.bfd_replay.specs.Happenings.{happening_outcomes}
 use Rattle.bfd_replay.specs.Written.{TookFront}
 use Rattle.bfd_replay.proofs.Written.{took_nothing}
-use Rattle.bfd_replay.proofs.worker.replaying.write_at_once.Goals as goal
+use Rattle.bfd_replay.proofs.worker.replaying.write_report.Goals as goal
 
 pub returns-in_default-clause-front : goal.returns-in_default-clause-front
 returns-in_default-clause-front g c = λ shards last hs ss long are. took_nothing (g.K.Sink.taken c.args.sink.now)

@@ -126,7 +126,7 @@ fn in_four<R: Threads>(rt: &R, alloc: Global, rests: Vec<Rest>) -> Result<Texts,
 /// The report of a replay of so many events, as `report` gives it, in texts that stand one behind another. Up to four threads gather it,
 /// each a part of its lines, if they are available. Its counts come too. Fails only when out of memory, or when 2^64 packets were sent or
 /// dropped, which it reports as out of memory.
-pub fn report_at_once<R: Threads>(
+pub fn report_by_threads<R: Threads>(
     rt: &R,
     alloc: Global,
     parts: Vec<Part>,

@@ -1,6 +1,6 @@
--- One text more is the last.
+-- One more text is the last.
 use Rattle.bfd_replay.proofs.ReportCommon.{[], ◌∷◌, append-nil, flat_map-append}
-use Rattle.bfd_replay.proofs.report.at_once.put_behind.Goals as goal
+use Rattle.bfd_replay.proofs.report.threads.put_behind.Goals as goal
 
 pub returns-clause-texts : goal.returns-clause-texts
 returns-clause-texts c = cc (

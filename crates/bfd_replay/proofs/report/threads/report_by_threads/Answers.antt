@@ -3,7 +3,7 @@ use Rattle.bfd_replay.proofs.ReportCommon.{◌∙◌, IsSpread, refl, subst, sym
 use Rattle.bfd_replay.proofs.Seams.{text_more}
 use Rattle.bfd_replay.proofs.Telling.{deal_all}
 use Rattle.bfd_replay.proofs.Whole.{parts_spread, whole_counts, whole_report}
-use Rattle.bfd_replay.proofs.report.at_once.report_at_once.Goals as goal
+use Rattle.bfd_replay.proofs.report.threads.report_by_threads.Goals as goal
 
 pub returns-clause-texts : goal.returns-clause-texts
 returns-clause-texts g c = λ shards last hs ss count parts.

@@ -2,7 +2,7 @@
 use Rattle.bfd_replay.proofs.ReportCommon.{◌+◌, ◌++◌, ap, flat_map}
 use Rattle.bfd_replay.proofs.Seams.{both_gather, four_counts, four_texts, made}
 use Rattle.bfd_replay.specs.Spread.{Gathers}
-use Rattle.bfd_replay.proofs.report.at_once.in_four.Goals as goal
+use Rattle.bfd_replay.proofs.report.threads.in_four.Goals as goal
 
 pub returns : goal.returns
 returns g c = λ dealt h.

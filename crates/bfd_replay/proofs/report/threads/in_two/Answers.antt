@@ -1,7 +1,7 @@
 -- The halves give what the whole gives.
 use Rattle.bfd_replay.proofs.Seams.{both_gather, made}
 use Rattle.bfd_replay.specs.Spread.{Gathers}
-use Rattle.bfd_replay.proofs.report.at_once.in_two.Goals as goal
+use Rattle.bfd_replay.proofs.report.threads.in_two.Goals as goal
 
 pub returns : goal.returns
 returns g c =
