@@ -16,7 +16,7 @@ use Rattle.bfd_auth.specs.Digests.{is_meticulous, digest_of, section_length, pad
 abbrev pub packet_key : List Key → List ℕ → Option Key
 packet_key keys raw = if nat_le (length raw) 26 then None else key_named (slice_index raw 26) keys
 
--- Auth Len is what the type and the key ask for, and doesn't run past the packet
+-- Auth Len is what the type and the key require, and doesn't run past the packet
 abbrev pub has_section_length : Kind → Key → List ℕ → Bool
 has_section_length kind key raw =
     slice_index raw 25 == section_length kind key && nat_le (slice_index raw 25) (length raw - 24)
@@ -29,14 +29,14 @@ sequence_of raw = word_at 28 raw
 abbrev pub window : ℕ → ℕ → ℕ → Bool
 window lo width s = nat_le ((s + (2 ^ 32 - lo)) % 2 ^ 32) width
 
--- the sequence number is among those after the last one heard: up to three times the packet's Detect Mult
--- further, and the last one itself where the type isn't meticulous
+-- the sequence number is at most three times the packet's Detect Mult after the last one heard; it may be the last one
+-- itself if the type isn't meticulous
 abbrev pub in_window : Kind → ℕ → ℕ → ℕ → Bool
 in_window kind last mult s =
     if is_meticulous kind then window ((last + 1) % 2 ^ 32) (3 * mult - 1) s
     else window last (3 * mult) s
 
--- the sequence number may be heard: the type has none, or no number is known, or it lies in the window
+-- the sequence number may be accepted: the type has none, or no number is known, or it lies in the window
 abbrev pub may_hear : Kind → SeqState → ℕ → ℕ → Bool
 may_hear kind seq mult s = is_password kind || (not seq.known || in_window kind seq.rcv mult s)
 
