@@ -65,7 +65,7 @@ is_heard _ _ = false
 abbrev pub names_of : List Row → List (Name × Option Port)
 names_of rows = map (λ row. (row_name row, heard_on row.kind)) rows
 
--- the discriminators of all rows, with nothing beside them
+-- the discriminators of all rows, each with an empty value
 abbrev pub discrs_of : List Row → List (ℕ × Unit {0})
 discrs_of rows = map (λ row. (row.discr, tt)) rows
 

@@ -75,7 +75,7 @@ all_tests c arrival =
 abbrev pub first_discarding : List Row → SessionConfig → Vars → Arrival → Option Test
 first_discarding rows c v arrival = find (discards rows c v arrival) (all_tests c arrival)
 
--- the test that a verdict tells of
+-- the test that a verdict names
 abbrev pub test_of : Verdict → Option Test
 test_of Accepted = None
 test_of (Discarded test) = Some test
