@@ -24,11 +24,11 @@ abbrev pub least : List (Option ℕ) → Option ℕ
 least [] = None
 least (d ∷ ds) = sooner d (least ds)
 
--- a due tick once the tick t has taken it
+-- a due tick after the tick t: none, if it has come
 abbrev pub without : ℕ → Option ℕ → Option ℕ
 without t d = if has_come t d then None else d
 
--- the lowest number, where never is above all that count
+-- the lowest number; never is above each that stands for a due tick
 abbrev pub lowest : List ℕ → ℕ
 lowest [] = never
 lowest (d ∷ ds) = min d (lowest ds)

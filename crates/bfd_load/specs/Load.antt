@@ -1,4 +1,4 @@
--- A script made from three numbers: how many sessions and ticks there are, and a seed.
+-- A script built from three numbers: how many sessions and ticks there are, and a seed.
 use Rattle.std.specs.Prelude.{ℕ, ◌+◌, ◌-◌, ◌*◌, ◌%◌, ◌^◌, ◌==◌, ◌&&◌, Bool, true, false, not, nat_le, None, List, [], ◌∷◌, ◌++◌, map}
 use Rattle.std.specs.Prelude.{length, if◌then◌else◌}
 use Rattle.std.specs.List.{filter, flat_map, range_with_len}
@@ -69,7 +69,7 @@ control i p = record {
   min_echo = 0;
 }
 
--- it comes in from the peer with TTL 255
+-- it arrives from the peer with TTL 255
 abbrev pub arrival : ℕ → ℕ → Arrival
 arrival i p = record {
   port = ports.Single;

@@ -14,7 +14,7 @@ use Rattle.bfd_pair.specs.declared.event.PairEvent.TheVariants.{Give}
 use Rattle.bfd_pair.specs.declared.event.PairAnswer.TheVariants.{Did}
 use Rattle.bfd_pair.specs.Run.{other, side_of, packet_at, pair_run, turn}
 
--- a change to Up is told among these outputs
+-- one of these outputs reports a change to Up
 abbrev pub tells_up : List Out → Bool
 tells_up [] = false
 tells_up (Changed discr old new diag ∷ items) = is_up new || tells_up items
@@ -40,8 +40,7 @@ abbrev pub sent_by_then : (left right : SessionConfig) (side : Side) (past : Lis
 sent_by_then left right side past h = length (side_of side (pair_run left right h.before)).sent
 
 -- this event after this past gives the side a packet of the other side that is in Init or Up and has the side's discriminator as
--- Your Discriminator. In the past the other side handled a packet of this side, and the packet given is none that it had
--- sent before then
+-- Your Discriminator. In the past the other side handled a packet of this side, and it hadn't sent the given packet before that
 pub record IsHandshake (left right : SessionConfig) (side : Side) (event : PairEvent) (past : List PairEvent) : Type 0 where
   pub moment : ℕ
   pub number : ℕ

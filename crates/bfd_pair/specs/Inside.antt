@@ -42,7 +42,7 @@ pub record Pairing : Type 0 where
 abbrev pub pairing_of : Peer → Peer → List PairEvent → Pairing
 pairing_of left right past = record { left = left.session.config; right = right.session.config; past = past }
 
--- the two sides are what the past makes of them
+-- the two sides are as they are after the past
 pub record IsPair (left right : Peer) (last : ℕ) (past : List PairEvent) : Type 0 where
   pub left_peer : IsPeer left
   pub right_peer : IsPeer right

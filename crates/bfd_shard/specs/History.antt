@@ -1,4 +1,4 @@
--- What the events of a shard make of its sessions. A history is the list of a shard's events, in the order in which they came:
+-- The sessions of a shard after its events. A history is the list of a shard's events, in the order in which they came:
 -- own events of the sessions, each with its place, and ticks of the clock, which are events of every session.
 use Rattle.std.specs.Prelude.{ℕ, ◌==◌, ◌+◌, List, [], ◌∷◌, if◌then◌else◌, max, map, slice_get, slice_set, Option, None, Some}
 use Rattle.std.specs.List.{flat_map}
@@ -12,7 +12,7 @@ use Rattle.bfd_shard.specs.declared.entry.ShardEvent.{ShardEvent}
 use Rattle.bfd_shard.specs.declared.entry.ShardEvent.TheVariants.{Own, Tick}
 use Rattle.bfd_shard.specs.declared.entry.Entry.{Entry}
 
--- the history that a journal tells: who brought an event has no part in it
+-- the history that a journal holds: the events, without who brought each
 abbrev pub events_of : List Entry → List ShardEvent
 events_of journal = map (λ entry. entry.event) journal
 
@@ -41,8 +41,8 @@ unfoldable pub run_from : ℕ → ℕ → List ShardEvent → Running → Runnin
 run_from place last [] s = s
 run_from place last (event ∷ events) s = run_from place (later last event) events (after place last event s)
 
--- the run of a session over a history: what its own events and the ticks make of a session of this configuration that
--- stands at this place from the start
+-- the run of a session over a history: a session of this configuration that stands at this place from the start, after its
+-- own events and the ticks
 abbrev pub run : ℕ → List ShardEvent → SessionConfig → Running
 run place events config = run_from place 0 events (started config)
 
@@ -69,7 +69,7 @@ unfoldable pub moved : ℕ → ShardEvent → List Running → List Running
 moved last (Own place moment event) sessions = own_moved (slice_get sessions place) place moment last event sessions
 moved last (Tick t) sessions = map (ticked (max last t)) sessions
 
--- what the event gives: an own event what its session gives, a tick the outputs of all sessions, by ascending place
+-- the outcome of the event: of an own event its session's outcome, of a tick the outputs of all sessions, by ascending place
 unfoldable pub outcome_of : ℕ → ShardEvent → List Running → Outcome
 outcome_of last (Own place moment event) sessions = own_outcome (slice_get sessions place) moment last event
 outcome_of last (Tick t) sessions = record { items = flat_map (tick_items (max last t)) sessions; answer = Ticked }

@@ -1,4 +1,4 @@
--- What each step on the lock's word tells its caller.
+-- What each step on the lock's word shows its caller.
 use Rattle.std.specs.Prelude.{◌≡◌, ◌≢◌, ℕ, ◌+◌, ◌^◌, ◌<◌, ◌≤◌, List, [], ◌∷◌, ◌++◌, length, Option, Some, All}
 use Rattle.atomic_table.specs.Table.{Me, Step}
 use Rattle.bfd_turn.specs.declared.view.View.{View}
@@ -30,7 +30,7 @@ module _ {V N B : Type 0} where
   abbrev pub looked : (N → ℕ) → Step (Option V) → Sat V N B → ℕ → Sat V N B → Type 0
   looked by st m n m' = (m' ≡ (having_looked n m.0, m.1)) × Shows by m.0 n
 
-  -- a load that leaves the view
+  -- a load that doesn't change the view
   abbrev pub checked : (N → ℕ) → Step (Option V) → Sat V N B → ℕ → Sat V N B → Type 0
   checked by st m n m' = (m' ≡ m) × Shows by m.0 n
 
