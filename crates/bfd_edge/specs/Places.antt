@@ -27,13 +27,13 @@ is_shut Waiting = false
 is_shut Opened = false
 is_shut (Shut kept) = true
 
--- what the link of the number told when it was shut, by what was kept of it
+-- what was observed of the link of the number when it was shut, by what was kept of it
 abbrev pub told_in : {T : Type 0} → (T → LinkTold) → Place T → Option LinkTold
 told_in told Waiting = None
 told_in told Opened = None
 told_in told (Shut kept) = Some (told kept)
 
--- what ports with these places tell
+-- what is observed of ports with these places
 abbrev pub ports_told : {T : Type 0} → (T → LinkTold) → (ℕ → Place T) → ℕ → PortsTold
 ports_told told places faults = record {
   opened = λ n. is_opened (places n);

@@ -33,7 +33,7 @@ pub record HasTaken (engine : Shards) (shard : ℕ) (k l : Knows) (hold : Holdin
   pub made : hold.2.made ≡ made_at k shard
   pub kept : hold.2.joined ≡ kept_at k shard
 
--- a pass has met a word of a shard's lock, and all else of it is as before
+-- a pass has met a word of a shard's lock, and otherwise is as before
 pub record HasMet (word shard : ℕ) (k l : Knows) : Type 0 where
   pub number : l.0 ≡ k.0
   pub used : l.2 ≡ k.2

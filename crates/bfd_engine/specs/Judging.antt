@@ -1,4 +1,4 @@
--- By which test the answer to an arrival tells that it was discarded.
+-- The test that the answer to a discarded arrival names.
 use Rattle.std.specs.Prelude.{ℕ, ◌≡◌, ◌/◌, ◌%◌, ◌++◌, List, [], ◌∷◌, length, slice_get, Some}
 use Rattle.std.specs.Result.{result_err}
 use Rattle.bfd_packet.specs.declared.arrival.Arrival.{Arrival}
@@ -20,7 +20,7 @@ use Rattle.bfd_engine.specs.Turned.{entry_of}
 use Rattle.bfd_engine.specs.Engines.{Shards, Knows, configs_at}
 use Rattle.bfd_engine.specs.Calls.{seen_at}
 
--- the answer to a packet at an effective moment: it is discarded by the first of all tests that it fails, and handled where it
+-- the answer to a packet at an effective moment: it is discarded by the first of all tests that it fails, and handled if it
 -- fails none, over the session's variables after settling (RFC 5880 section 6.8.6)
 abbrev pub packet_answer : Shards → Arrival → ℕ → Running → Answer
 packet_answer engine arrival eff s =
@@ -44,7 +44,7 @@ answered_at expected engine moment k event l answer =
     IsAnswered expected engine (k % length engine.locks) (k / length engine.locks) moment event l.0 (seen_at l (k % length engine.locks))
     answer
 
--- no other event of a session arrives
+-- other events of a session don't arrive as packets
 abbrev pub judged_own : Shards → ℕ → ℕ → Event → Knows → Answer → Type 0
 judged_own engine moment k (Packet arrival) l answer = answered_at (packet_answer engine arrival) engine moment k (Packet arrival) l answer
 judged_own engine moment k (Returned sequence) l answer = answered_at (return_answer sequence) engine moment k (Returned sequence) l answer

@@ -1,4 +1,4 @@
--- What a look at a shard's history leaves.
+-- What reading a shard's history changes.
 use Rattle.std.specs.Prelude.{ℕ, ◌≡◌, List, []}
 use Rattle.std.specs.List.{AllByRecursion}
 use Rattle.bfd_session.specs.declared.event.SessionConfig.{SessionConfig}
@@ -22,7 +22,7 @@ pub record HasRead (k l : Knows) (shard : ℕ) : Type 0 where
   pub between : List Entry
   pub turned : Turned k l shard between []
 
--- why a shard's history wasn't read: no memory, or the lock's last word was met; a full journal can be read
+-- why a shard's history wasn't read: out of memory, or the lock's last word was met; a full journal can be read
 abbrev pub IsHistoryUnread : TurnFault → OfShard → Type 0
 IsHistoryUnread NoMemory q = Unit {0}
 IsHistoryUnread (IsFull n) q = ⊥
