@@ -62,7 +62,7 @@ abbrev pub row_has_selector : Option RowKind → Row → Bool
 row_has_selector None row = false
 row_has_selector (Some kind) row = same_selector kind row.kind
 
--- M is set on the port that takes multipoint packets (RFC 8562)
+-- M is set on the port that receives multipoint packets (RFC 8562)
 abbrev pub is_multipoint : Port → Arrival → Bool
 is_multipoint port arrival = takes_multipoint_of port && (fields_of arrival.payload).multi
 

@@ -1,4 +1,4 @@
--- How a side comes to Up: only by the other side's answer to a packet of its own (RFC 5880 sections 6.2 and 6.8.6).
+-- How a side enters Up: only by the other side's answer to a packet of its own (RFC 5880 sections 6.2 and 6.8.6).
 use Rattle.std.specs.Prelude.{◌≡◌, ℕ, Bool, true, false, ◌||◌, Some, List, [], ◌∷◌, ◌++◌, ◌<◌, length}
 use Rattle.bfd_packet.specs.Layout.{fields_of}
 use Rattle.bfd_packet.specs.States.{is_init_or_up}

@@ -28,7 +28,7 @@ by_way way bytes = record {
   payload = bytes;
 }
 
--- the session is point-to-point, the table has its one row, and packets come to it as its configuration says
+-- the session is point-to-point, the table has its one row, and packets reach it as its configuration says
 pub record IsPeer (p : Peer) : Type 0 where
   pub table : p.table ≡ row_of p.session.config ∷ []
   pub way : (bytes : List ℕ) → arrival_to p.session.config bytes ≡ Some (by_way p.way bytes)

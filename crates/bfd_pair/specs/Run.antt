@@ -112,7 +112,7 @@ judged_move None moment last arrival e = own_move moment last (Packet arrival) e
 abbrev pub arrives : ℕ → ℕ → Arrival → End → Move
 arrives moment last arrival e = judged_move (screened e.session.config arrival) moment last arrival e
 
--- a packet comes to a side
+-- a packet reaches a side
 abbrev pub comes : Option Arrival → ℕ → ℕ → End → Move
 comes None moment last e = side_rests (Did (Dropped NoSession)) e
 comes (Some arrival) moment last e = arrives moment last arrival e
