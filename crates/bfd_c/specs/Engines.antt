@@ -1,5 +1,5 @@
--- An engine behind a handle, and how a call changes it. A call's code is 0 if it did its work, 1 if the handle is closed, 2 when out of
--- memory, 3 if a value is outside its range, 4 if nothing is left, 5 if a text is no table, and 6 if it has event lines.
+-- An engine behind a handle, and how a call changes it. A call's code is 0 if it did its work, 1 if the handle is closed, and 2 when
+-- out of memory. It is 3 if a value is outside its range, 4 if nothing is left, 5 if a text is no table, and 6 if it has event lines.
 use Rattle.std.specs.Prelude.{ℕ, List, [], ◌∷◌, Option, None, Some, Result, Ok, Err, map}
 use Rattle.bfd_lanes.specs.Places.{least}
 use Rattle.bfd_rules.specs.declared.outputs.Out.{Out}
@@ -16,8 +16,8 @@ use Rattle.bfd_instance.specs.World.{World, discr_reached, happens, opened}
 use Rattle.bfd_c.specs.declared.records.kept.Record.{Record}
 use Rattle.bfd_c.specs.Records.{fresh, recorded}
 
--- an engine: its sessions and reflectors with the greatest tick so far, the outputs of the last event that are left to be read,
--- its answer, the discriminator of the session to which it came, or 0, and the record of each session
+-- an engine: its sessions and reflectors with the greatest tick so far, and the record of each session. Of the last event: the
+-- outputs that are left to be read, its answer, and the discriminator of the session to which it came, or 0
 pub record Instance : Type 0 where
   pub world : World
   pub left : List Out

@@ -1,5 +1,5 @@
--- What a handle holds after a session or a reflector was added or removed, and the code: 7 if the discriminator is taken, 8 if the
--- selecting addresses are, 9 if there are 65,536 already, and 10 if none has the discriminator.
+-- What a handle holds after a session or a reflector was added or removed, and the code. It is 7 if the discriminator is taken, 8 if
+-- the selecting addresses are, 9 if there are 65,536 already, and 10 if none has the discriminator.
 use Rattle.std.specs.Prelude.{ℕ, ◌==◌, ◌&&◌, nat_le, nat_lt, Option, None, Some, List, if◌then◌else◌}
 use Rattle.bfd_rules.specs.Sound.{is_interval}
 use Rattle.bfd_demux.specs.declared.fault.AddFault.{AddFault}

@@ -66,8 +66,8 @@ row_has_selector (Some kind) row = same_selector kind row.kind
 abbrev pub is_multipoint : Port → Arrival → Bool
 is_multipoint port arrival = takes_multipoint_of port && (fields_of arrival.payload).multi
 
--- the arrival on this port names the row: an echo packet by its second word, a multipoint packet as a tail does,
--- and any other by Your Discriminator, or by addresses if that is 0
+-- the arrival on this port names the row: an echo packet by its second word, a multipoint packet by its tail's kind and
+-- addresses. Any other names it by Your Discriminator, or by addresses if that is 0
 abbrev pub names_on : Port → Arrival → Row → Bool
 names_on EchoPort arrival row = row_has_discr EchoPort (word_at 4 arrival.payload) row
 names_on port arrival row =
@@ -117,7 +117,7 @@ abbrev pub tests_on_header : Port → List Test
 tests_on_header EchoPort = []
 tests_on_header port = header_tests port
 
--- the port's tests on the table, where M is set or isn't
+-- the port's tests on the table, by whether M is set
 abbrev pub tests_on_table : Port → Bool → List Test
 tests_on_table EchoPort multipoint = EchoForm ∷ YourUnknown ∷ []
 tests_on_table SbfdPort multipoint = YourUnknown ∷ []

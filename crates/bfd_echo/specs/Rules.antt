@@ -14,7 +14,7 @@ pub record HasMoments (e : Echo) : Type 0 where
   pub last_below : e.last < moment_bound
   pub sent_below : IfSome e.sent (λ m. m < moment_bound)
 
--- the Echo function starts: the first packet is due at the next tick, nothing is outstanding, and packets have as long
+-- the Echo function starts: the first packet is due at the next tick, and nothing is outstanding. Packets have as long
 -- to come back as if one had come back now
 unfoldable pub echo_begun : ℕ → ℕ → Echo
 echo_begun eff next = record { first = floor_tick eff + 1; sent = None; last = eff; back = next; next = next }

@@ -1,5 +1,5 @@
 -- What a call of an engine resolves to, and what it changes. The functions on a caller's pass are total in the shard's
--- number: where the caller has no pass of a shard they are empty or 0.
+-- number: if the caller has no pass of a shard, they are empty or 0.
 use Rattle.std.specs.Prelude.{ℕ, ◌≡◌, ◌≢◌, ◌≤◌, ◌<◌, ◌+◌, ◌/◌, ◌%◌, ◌++◌, List, [], ◌∷◌, length, slice_get, Option, None, Some, Result, Ok}
 use Rattle.std.specs.Prelude.{Err}
 use Rattle.bfd_packet.specs.declared.arrival.Arrival.{Arrival}

@@ -50,8 +50,8 @@ judged_own engine moment k (Packet arrival) l answer = answered_at (packet_answe
 judged_own engine moment k (Returned sequence) l answer = answered_at (return_answer sequence) engine moment k (Returned sequence) l answer
 judged_own engine moment k event l answer = Unit {0}
 
--- an arrival that fails a test up to selection was discarded by the first of them, and a reflector's packet by the first of the
--- reflectors' tests that it fails
+-- an arrival that fails a test up to selection was discarded by the first of them. A reflector's packet that fails a test of the
+-- reflectors was discarded by the first of those
 abbrev pub arrival_judged : Shards → ℕ → Arrival → Destination → Knows → Answer → Type 0
 arrival_judged engine moment arrival (Discarded test) l answer = answer ≡ Dropped test
 arrival_judged engine moment arrival (Reflected place) l answer = answer ≡ answer_by (result_err (reflect engine.pool arrival))

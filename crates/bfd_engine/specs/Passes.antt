@@ -41,7 +41,7 @@ pub record CutsAt (number at : ℕ) (before after : List Held) (new : TableId ×
   pub left : (k : ℕ) → k ≢ at → slice_get after k ≡ slice_get before k
 
 -- on a shard caller 0 knew k, and knows l after it has joined a pass that knew o. It has seen the longer of the two lists, of
--- which each is a prefix, with no further call of its own, and keeps the other's number and calls
+-- which each is a prefix. It made no further call of its own, and keeps the other's number and calls
 pub record Joined (k o l : Knows) (shard : ℕ) : Type 0 where
   pub seen : seen_at l shard ≡ longer (seen_at k shard) (seen_at o shard)
   pub first : Begins (seen_at k shard) (seen_at l shard)

@@ -64,8 +64,8 @@ pub record HadTurn (p q : OfShard) : Type 0 where
   pub later : p.word < q.word
   pub left : q.word ≤ last_word
 
--- q has seen what p had, then only entries of other callers, and last its own entry of this event, for which the journal was below
--- its limit. The outputs that were appended and the answer are those of that last entry after the entries before it
+-- q has seen what p had, then only entries of other callers, and last its own entry of this event. Before that entry the journal was
+-- below its limit. The outputs that were appended and the answer are those of that entry after the entries before it
 pub record HasTurned (p : OfShard) (event : ShardEvent) (q : OfShard) (outs outs2 : List Out) (answer : Answer) : Type 0 where
   pub between : List Entry
   pub others : calls by p.number between ≡ []

@@ -166,7 +166,7 @@ world script = outcomes script.events (opened script.configs script.pool)
 abbrev pub world_left : Lists → World
 world_left script = world_after script.events (opened script.configs script.pool)
 
--- how many events there are, how many packets are sent and how many are dropped in them, and how many sessions are Up at the end
+-- how many events there are, how many packets are sent and dropped in them, and how many sessions are Up at the end
 pub record Totals : Type 0 where
   pub events : ℕ
   pub txs : ℕ

@@ -10,7 +10,7 @@ never = 18446744073709551615
 abbrev pub due_of : ℕ → Option ℕ
 due_of d = if nat_eq d never then None else Some d
 
--- the places of the elements that pass the test p, ascending, where the first element has the place n
+-- the places of the elements that pass the test p, ascending; the first element has the place n
 abbrev pub places : {A : Type 0} → (A → Bool) → ℕ → List A → List ℕ
 places p n [] = []
 places p n (x ∷ xs) = if p x then n ∷ places p (n + 1) xs else places p (n + 1) xs

@@ -31,8 +31,8 @@ pub record IsBegun (limit eff : ℕ) (m : Mark) (v : Vars) : Type 0 where
   pub sound : IsHeadSound v
   pub made : m ≡ begins v
 
--- what settling leaves for the end of a head's event: no packet with F was sent. Either a packet moved the base to this moment,
--- or the due tick stands as it was drawn
+-- what settling leaves for the end of a head's event: no packet with F was sent. A packet that moved the base
+-- moved it to this moment. If none did, the due tick stands as it was drawn
 pub record IsSettled (limit eff : ℕ) (m : Mark) (v : Vars) : Type 0 where
   pub unanswered : m.answered ≡ false
   pub based : m.moved ≡ true → v.base ≡ eff

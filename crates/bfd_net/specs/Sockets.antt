@@ -31,7 +31,7 @@ pub record UdpHeld : Type 0 where
   pub number : ℕ
   -- the reading of the clock at which its ports were made, if there was one
   pub made : Option Instant
-  -- the port and the address that it hears; none where it only sends
+  -- the port and the address that it hears; none if it only sends
   pub hears : Option (Port × ℕ)
   -- how many answers in a row were Quiet
   pub quiets : ℕ

@@ -30,8 +30,8 @@ pub record IsBegun (c : Config) (limit eff : ℕ) (m : Mark) (v : Vars) : Type 0
   pub made : m ≡ begins v
 
 -- what settling leaves for the end of the event: no deadline has come, no packet with F was sent, and a session that is Up
--- was Up at the start. Either a packet moved the base to this moment, or the due tick stands as it was drawn, unless there is
--- news to send or no packet may be sent
+-- was Up at the start. A packet that moved the base moved it to this moment. The due tick stands as it was drawn if no packet
+-- moved the base, there is no news, and packets may be sent
 pub record IsSettled (active : Bool) (limit eff : ℕ) (m : Mark) (v : Vars) : Type 0 where
   pub late : has_come limit (deadline v) ≡ false
   pub seq_late : has_come limit (seq_deadline v) ≡ false

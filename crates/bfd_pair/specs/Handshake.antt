@@ -39,8 +39,8 @@ pub record Heard (left right : SessionConfig) (side : Side) (past : List PairEve
 abbrev pub sent_by_then : (left right : SessionConfig) (side : Side) (past : List PairEvent) → Heard left right side past → ℕ
 sent_by_then left right side past h = length (side_of side (pair_run left right h.before)).sent
 
--- this event after this past gives the side a packet of the other side that is in Init or Up and has the side's discriminator as
--- Your Discriminator. In the past the other side handled a packet of this side, and it hadn't sent the given packet before that
+-- this event after this past gives the side a packet of the other side. The packet's state is Init or Up, and its Your Discriminator
+-- is the side's discriminator. In the past the other side handled a packet of this side, and it hadn't sent the given packet before that
 pub record IsHandshake (left right : SessionConfig) (side : Side) (event : PairEvent) (past : List PairEvent) : Type 0 where
   pub moment : ℕ
   pub number : ℕ

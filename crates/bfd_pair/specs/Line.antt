@@ -51,8 +51,8 @@ line_by events sent given left right rises =
 abbrev pub sent_in : Both → ℕ
 sent_in w = length w.left.sent + length w.right.sent
 
--- the line of two sides of a seed after these events: how many events there were, how many packets both sides sent, how many
--- they were given, the state of each, and how many changes to Up there were
+-- the line of two sides of a seed after these events: how many events there were, how many packets both sides sent and were
+-- given, the state of each, and how many changes to Up there were
 abbrev pub line_of : ℕ → List PairEvent → Both → List ℕ
 line_of seed past w =
     line_by (length past) (sent_in w) (total_of given_in seed past) w.left.session.vars.state w.right.session.vars.state

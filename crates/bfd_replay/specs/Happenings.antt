@@ -10,8 +10,8 @@ use Rattle.bfd_shard.specs.History.{later, moved, outcome_of}
 use Rattle.bfd_replay.specs.declared.report.queue.Numbered.{Numbered}
 use Rattle.bfd_replay.specs.Pieces.{Piece, whole_piece, event_pieces}
 
--- an event of no session, with its outcome, or an event of the table's sessions, in which an own event has its place in the
--- whole table
+-- an event of no session, with its outcome, or an event of the table's sessions; an own event has its place in the whole
+-- table
 pub data Happening : Type 0 where
   Apart : Outcome → Happening
   Among : ShardEvent → Happening

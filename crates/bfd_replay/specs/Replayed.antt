@@ -9,8 +9,8 @@ use Rattle.bfd_replay.specs.declared.report.counts.Counts.{Counts}
 use Rattle.bfd_replay.specs.Planned.{events_of_table}
 use Rattle.bfd_replay.specs.Working.{entries_by}
 
--- the state of this shard: it was built from its share of the sessions. Its journal is, in the order of the script, the own events of
--- its sessions and every tick, all brought by the caller that handles the shard
+-- the state of this shard: it was built from its share of the sessions. Its journal is the own events of its sessions and every
+-- tick, in the order of the script. The caller that handles the shard brought them all
 pub record HasReplayed (script : Lists) (shards : ℕ) (by : ℕ → ℕ) (number : ℕ) (state : Shard) : Type 0 where
   pub configs : configs_of state.sessions ≡ share shards number script.configs
   pub journal : state.journal ≡ entries_by (by number) (history_of shards number (events_of_table script))

@@ -77,8 +77,8 @@ module _ (engine : Shards) (histories : ℕ → List Entry) (orders : List Line)
   IsFinishCause journal (JournalFull shard) = IsFull journal shard
   IsFinishCause journal (Turns number) = IsTurns number
 
-  -- the run is done if every link of a worker ended, no fault count of a link or of the ticker rose, and no shard has more calls
-  -- than a journal accepts
+  -- the run is done if every link of a worker ended, no receive and no tick failed, and no shard has more calls than a journal
+  -- accepts
   abbrev pub Completes : ℕ → Finish → Type 0
   Completes journal finish =
       ((number : ℕ) → 0 < number → number ≤ workers → ((after number).counts.over ≡ true) × ((after number).counts.receive_faults ≡ 0))

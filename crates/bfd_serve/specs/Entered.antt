@@ -12,7 +12,7 @@ use Rattle.bfd_engine.specs.Engines.{Shards, configs_at}
 use Rattle.bfd_engine.specs.Judging.{IsAnswered, packet_answer, return_answer}
 
 -- at each tick in the shards' histories, exactly the sessions that it expires forgot that a packet was heard (RFC 5880 section
--- 6.8.4), and nothing was left that was due by the last tick
+-- 6.8.4). Nothing was left that was due by the last tick
 abbrev pub AreTimely : Shards → (ℕ → List Entry) → Type 0
 AreTimely engine histories =
     (shard caller t : ℕ) (before after : List Entry) → histories shard ≡ before ++ entry_of caller (Tick t) ∷ after

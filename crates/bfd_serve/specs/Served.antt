@@ -80,7 +80,7 @@ shards_text number (history ∷ histories) = shard_text number history ++ shards
 abbrev pub served_line : ℕ → ℕ → ℕ → List ℕ
 served_line entries txs lost = line (codes "served" ∷ decimal entries ∷ decimal txs ∷ decimal lost ∷ [])
 
--- the served text of shards with these histories, where so many sends failed: the entries of all journals are counted, and the
+-- the served text of shards with these histories, when so many sends failed: the entries of all journals are counted, and the
 -- packets that they sent
 abbrev pub served : List History → ℕ → List ℕ
 served histories lost =

@@ -42,8 +42,8 @@ is_clock_fault (TurnsMade n) = false
 is_clock_fault (Spent shard word) = false
 is_clock_fault Memory = false
 
--- what the timer did: of all that it had to do at the ticks that its ticker gave in this run, the acts of `done` were done, and
--- those of `cut` were not. Only after Full, Spent or Memory can `cut` have some
+-- what the timer did: of its acts at the ticks that its ticker gave in this run, those of `done` were done, and those of `cut`
+-- were not. Only after Full, Spent or Memory can `cut` have some
 pub record HasTimed (engine : Shards) (k l : Knows) (t u : LinkTold) (c d : TickerTold) (orders : List Line) (ticks : ℕ) (end : End)
     (lost : ℕ) : Type 0 where
   pub got : List ℕ

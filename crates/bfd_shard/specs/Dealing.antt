@@ -13,8 +13,8 @@ own_event place (Tick t) = Some (Tick t)
 abbrev pub own_events : ℕ → List ShardEvent → List ShardEvent
 own_events place events = filter_map (own_event place) events
 
--- an event of a whole table as the shard of this number has it, of so many shards: the session at place k of the
--- table stands at place k / shards of shard k % shards, and a tick is an event of every shard
+-- an event of a whole table as the shard of this number has it, of so many shards. The session at place k of the
+-- table stands at place k / shards of shard k % shards. A tick is an event of every shard
 abbrev pub event_in : ℕ → ℕ → ShardEvent → Option ShardEvent
 event_in shards number (Own k moment event) = if k % shards == number then Some (Own (k / shards) moment event) else None
 event_in shards number (Tick t) = Some (Tick t)

@@ -13,7 +13,7 @@ abbrev pub has_expired : ℕ → Running → Bool
 has_expired last s = has_come (1000 * last) (detects s)
 
 -- the places, ascending, of the sessions that a tick after this history expires: those whose Detection Time has expired by
--- it, where a tick below the last tick counts as the last tick
+-- it. A tick below the last tick counts as the last tick
 abbrev pub expired : List SessionConfig → List ShardEvent → ℕ → List ℕ
 expired configs events t = places (has_expired (max (last_tick events) t)) 0 (runs events configs)
 

@@ -16,7 +16,7 @@ use Rattle.bfd_shard.specs.declared.entry.Entry.{Entry}
 abbrev pub events_of : List Entry → List ShardEvent
 events_of journal = map (λ entry. entry.event) journal
 
--- the last tick after an event, where `last` was the last tick before: it never falls
+-- the last tick after an event, if `last` was the last tick before: it never falls
 abbrev pub later : ℕ → ShardEvent → ℕ
 later last (Own place moment event) = last
 later last (Tick t) = max last t
@@ -30,7 +30,7 @@ last_from last (event ∷ events) = last_from (later last event) events
 abbrev pub last_tick : List ShardEvent → ℕ
 last_tick events = last_from 0 events
 
--- the session at this place after an event, where `last` was the last tick before: an own event of another place does
+-- the session at this place after an event, if `last` was the last tick before. An own event of another place does
 -- nothing to it, and a tick below the last tick counts as the last tick
 abbrev pub after : ℕ → ℕ → ShardEvent → Running → Running
 after place last (Own other moment event) s = if other == place then stepped moment last event s else s
@@ -64,7 +64,7 @@ abbrev pub own_outcome : Option Running → ℕ → ℕ → Event → Outcome
 own_outcome None moment last event = record { items = []; answer = Handled }
 own_outcome (Some s) moment last event = step_outcome moment last event s
 
--- all sessions of a shard after one event, where `last` was the last tick before
+-- all sessions of a shard after one event, if `last` was the last tick before
 unfoldable pub moved : ℕ → ShardEvent → List Running → List Running
 moved last (Own place moment event) sessions = own_moved (slice_get sessions place) place moment last event sessions
 moved last (Tick t) sessions = map (ticked (max last t)) sessions

@@ -39,7 +39,7 @@ abbrev pub NoneDue : ℕ → List Running → Type 0
 NoneDue last sessions = AllByRecursion (λ s. has_come last (due s) ≡ false) sessions
 
 -- at every tick of a history, exactly the sessions whose Detection Time had expired by it forgot that a packet was heard (RFC 5880
--- section 6.8.4), and nothing was left that was due by the last tick
+-- section 6.8.4). Nothing was left that was due by the last tick
 pub record IsOnTime (configs : List SessionConfig) (events : List ShardEvent) : Type 0 where
   pub exact : (before after : List ShardEvent) (t : ℕ) → events ≡ before ++ Tick t ∷ after
       → forgotten (runs before configs) (runs (before ++ Tick t ∷ []) configs) ≡ expired configs before t

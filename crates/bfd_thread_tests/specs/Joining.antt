@@ -28,8 +28,8 @@ pub record HasAdded (engine : Shards) (k l : Knows) (before after : List Job) (c
   pub unseen : job.saw.items ≡ []
   pub room_is : job.room ≡ room
 
--- caller 0 knew k, and knows l after it has joined the passes of these jobs. It made no call of its own, what each pass has seen
--- is a prefix of what it has seen, and it keeps each pass's number and calls
+-- caller 0 knew k, and knows l after it has joined the passes of these jobs. It made no call of its own, and keeps each pass's
+-- number and calls. What each pass has seen is a prefix of what it has seen
 pub record HasJoined (engine : Shards) (k l : Knows) (jobs : List Job) : Type 0 where
   pub of : IsOf engine l.1
   pub there : AllThere l.1

@@ -6,7 +6,7 @@ module _ {N : Type 0} where
   abbrev pub Begins : List N → List N → Type 0
   Begins seen history = (rest : List N) × (history ≡ seen ++ rest)
 
-  -- the longer of two lists, and the first where neither is longer
+  -- the longer of two lists, and the first if neither is longer
   abbrev pub longer : List N → List N → List N
   longer xs ys = if nat_le (length ys) (length xs) then xs else ys
 

@@ -22,8 +22,8 @@ abbrev pub OnBadLine : Status → (FaultyLine → Type 0) → Type 0
 OnBadLine (BadLine line fault) P = P (record { line = line; fault = fault })
 OnBadLine status P = ⊤
 
--- a run of this job may end so: with a port, a link, a journal, turns or the ticker only if it serves, with a member that names no
--- session only if it watches, and with a fault of the source or of its text only if it reads
+-- a run of this job may end so. Only a job that serves ends at a port, a link, a journal, turns or the ticker. Only one that watches
+-- ends at a member that names no session, and only one that reads at its source or the text of that
 abbrev pub IsEndOf : Option Job → Status → Type 0
 IsEndOf job PortFault = is_serving job ≡ true
 IsEndOf job (LinkFault number) = is_serving job ≡ true
