@@ -31,7 +31,7 @@ none_handed code answers e = record { engine = e; answers = answers; packets = 0
 abbrev pub one_before : Answered → Handed → Handed
 one_before answer behind = record behind { answers = answer ∷ behind.answers; packets = behind.packets + 1 }
 
--- after a packet that left outputs no other is handled, so that they can be read; else those behind it are
+-- after a packet that left outputs, no other is handled, so that the outputs can be read; else those behind it are
 abbrev pub handed_behind : List Out → Answered → List Answered → Instance → Handed → Handed
 handed_behind [] answer answers after behind = one_before answer behind
 handed_behind (out ∷ outs) answer answers after behind = one_before answer (none_handed 0 answers after)

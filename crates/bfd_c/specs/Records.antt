@@ -160,7 +160,7 @@ recorded line w rs =
     all_given after (changed_at (place_reached line w) (answered_with (came_with line) (happens line w).outcome.answer) after rs)
     (happens line w).outcome.items
 
--- the records with one more session's, at its place, and without that of a discriminator
+-- the records with that of one more session, at its place, and without that of a discriminator
 abbrev pub records_with : SessionConfig → World → List Record → List Record
 records_with config w rs = insert rs (place_for (discr_of config) (configs_of w.sessions)) (fresh config)
 

@@ -42,7 +42,7 @@ heard_on Seek = Some AnswerPort
 heard_on Reflect = Some SbfdPort
 heard_on _ = None
 
--- what an arrival on the port looks its discriminator up as
+-- the name by which an arrival on the port looks up its discriminator
 abbrev pub name_on : Port → ℕ → Name
 name_on SbfdPort discr = Reflector discr
 name_on _ discr = Session discr

@@ -37,7 +37,7 @@ same_discr row other = row.discr == other.discr
 abbrev pub same_addresses : Row → Row → Bool
 same_addresses row other = same_selector row.kind other.kind
 
--- the least row that is like an earlier one, and the least that it is like: their places
+-- the first row that is like an earlier one: the place of the first such earlier one, and its own place
 abbrev pub repeat_after : (Row → Row → Bool) → List Row → List Row → Option (ℕ × ℕ)
 repeat_after same earlier [] = None
 repeat_after same earlier (row ∷ rows) = option_or (option_map (λ place. (place, length earlier)) (position_from (same row) 0 earlier))

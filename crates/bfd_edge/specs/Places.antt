@@ -5,7 +5,7 @@ use Rattle.bfd_edge.specs.declared.places.Place.TheVariants.{Waiting, Opened, Sh
 use Rattle.bfd_edge.specs.Links.{LinkTold}
 use Rattle.bfd_edge.specs.Ports.{PortsTold}
 
--- the place of a number in a list of places: behind its end all are waiting
+-- the place of a number in a list of places; numbers after its end are waiting
 abbrev pub place_in : {T : Type 0} → List (Place T) → ℕ → Place T
 place_in [] n = Waiting
 place_in (place ∷ places) zero = place

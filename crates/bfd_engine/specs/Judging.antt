@@ -26,11 +26,11 @@ abbrev pub packet_answer : Shards → Arrival → ℕ → Running → Answer
 packet_answer engine arrival eff s =
     answer_by (first_discarding (table_of engine.configs engine.pool) s.config (judging eff s) arrival)
 
--- and to an echo packet that came back: whether its number was awaited, after settling
+-- the answer to an echo packet that came back: whether its number was awaited, after settling
 abbrev pub return_answer : ℕ → ℕ → Running → Answer
 return_answer sequence eff s = answer_to_return (awaits s.config sequence (settled s.config eff eff (begun (Some eff) s [])))
 
--- an own event that ends all that was seen has this answer of its session, as the entries before have left it
+-- the last entry seen is this own event, with the answer that is expected of its session as the entries before have left it
 pub record IsAnswered (expected : ℕ → Running → Answer) (engine : Shards) (shard place moment : ℕ) (event : Event) (caller : ℕ)
     (seen : List Entry) (answer : Answer) : Type 0 where
   pub before : List Entry
@@ -44,7 +44,7 @@ answered_at expected engine moment k event l answer =
     IsAnswered expected engine (k % length engine.locks) (k / length engine.locks) moment event l.0 (seen_at l (k % length engine.locks))
     answer
 
--- other events of a session don't arrive as packets
+-- no other event of a session is an arrival
 abbrev pub judged_own : Shards → ℕ → ℕ → Event → Knows → Answer → Type 0
 judged_own engine moment k (Packet arrival) l answer = answered_at (packet_answer engine arrival) engine moment k (Packet arrival) l answer
 judged_own engine moment k (Returned sequence) l answer = answered_at (return_answer sequence) engine moment k (Returned sequence) l answer

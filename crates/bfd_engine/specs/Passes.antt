@@ -1,4 +1,4 @@
--- What the calls that make, join and end passes leave, shard by shard.
+-- How the calls that make, join and end passes change them, shard by shard.
 use Rattle.std.specs.Prelude.{ℕ, ◌≡◌, ◌≢◌, ◌≤◌, ◌<◌, ◌+◌, ◌*◌, ◌++◌, true, false, List, [], ◌∷◌, length, slice_get, Option, Some}
 use Rattle.bfd_turn.specs.Lists.{Begins, longer, calls, has, numbers_of}
 use Rattle.bfd_turn.specs.Plays.{AllKept}

@@ -17,7 +17,7 @@ use Rattle.bfd_engine.specs.Calls.{met_word, Turned}
 abbrev pub AreGiven : List SessionConfig → List Entry → Type 0
 AreGiven configs entries = AllByRecursion (λ entry. CanHappen configs entry.event) entries
 
--- k became l by a turn that added no entry: it has seen what it had, and then entries of other callers alone
+-- k became l by a turn that added no entry: it has seen what it had, and then only entries of other callers
 pub record HasRead (k l : Knows) (shard : ℕ) : Type 0 where
   pub between : List Entry
   pub turned : Turned k l shard between []

@@ -88,7 +88,7 @@ abbrev pub IsTimely : List SessionConfig → ℕ → ShardEvent → List Entry �
 IsTimely configs caller (Own place moment event) seen = Unit {0}
 IsTimely configs caller (Tick t) seen = HasExpired configs caller t seen
 
--- q has seen what p had, and then entries of other callers alone
+-- q has seen what p had, and then only entries of other callers
 pub record HasLooked (p q : OfShard) : Type 0 where
   pub between : List Entry
   pub others : calls by p.number between ≡ []

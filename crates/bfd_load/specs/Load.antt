@@ -16,7 +16,7 @@ use Rattle.bfd_script.specs.declared.line.entries.Line.{Line}
 use Rattle.bfd_script.specs.declared.line.entries.Line.TheVariants.{Rx, Tick}
 use Rattle.bfd_script.specs.Reading.{Lists}
 
--- every session hears a packet once in so many ticks, and session i at the ticks that leave the remainder that i leaves
+-- every session hears a packet once in so many ticks: session i at the ticks with the same remainder as i
 abbrev pub period : ℕ
 period = 300
 
@@ -45,7 +45,7 @@ config seed i = Pair (record {
   keys = None;
 })
 
--- how many earlier ticks, from 1 on, leave the remainder that this one leaves: the packets before those of this tick
+-- how many earlier ticks, from 1 on, have the same remainder as this one: the packets before those of this tick
 unfoldable pub earlier : ℕ → ℕ
 earlier t = length (filter (λ u. u % period == t % period) (range_with_len 1 (t - 1)))
 

@@ -13,8 +13,8 @@ use Rattle.bfd_rules.specs.Quantities.{is_admin_down}
 use Rattle.bfd_rules.specs.EventFrame.{Course, changes, enters}
 use Rattle.bfd_mp.specs.declared.config.TailConfig.{TailConfig}
 
--- the numbers of a packet that a tail keeps fit their fields, and its Detect Mult isn't 0; so it is with every packet of
--- bytes that passes the header tests
+-- the numbers of a packet that a tail keeps fit their fields, and its Detect Mult isn't 0, as in every packet of bytes that
+-- passes the header tests
 pub record IsSized (packet : Control) : Type 0 where
   pub some_mult : packet.mult ≢ 0
   pub mult : packet.mult < 256

@@ -28,7 +28,7 @@ abbrev pub session_event : Happening → Option ShardEvent
 session_event (Apart outcome) = None
 session_event (Among event) = Some event
 
--- an event as the shard of this number has it, if it has it, of so many shards
+-- an event as the shard of this number, of so many, has it, if it has it
 abbrev pub in_shard : ℕ → ℕ → Happening → Option ShardEvent
 in_shard shards shard (Apart outcome) = None
 in_shard shards shard (Among event) = event_in shards shard event

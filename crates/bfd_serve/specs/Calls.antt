@@ -31,7 +31,7 @@ on_shard caller shard call = if call.0 == shard then Some (entry_of caller call.
 abbrev pub entries : ℕ → ℕ → List Call → List Entry
 entries caller shard calls = filter_map (on_shard caller shard) calls
 
--- what an arrival resolves to that came at a moment
+-- what an arrival, with its moment, resolves to
 abbrev pub act_at : Shards → ℕ × Arrival → Act
 act_at engine heard = arrival_act engine heard.0 heard.1
 

@@ -57,7 +57,7 @@ abbrev pub is_awaited : ℕ → Option Echo → Bool
 is_awaited sequence None = false
 is_awaited sequence (Some e) = is_outstanding e sequence
 
--- an echo packet with this number came back, for the one that runs
+-- an echo packet with this number came back, for the running Echo function
 abbrev pub back_to : ℕ → ℕ → Option Echo → Option Echo → Option Echo
 back_to eff sequence None echo = echo
 back_to eff sequence (Some e) echo = Some (returned eff sequence e)
@@ -65,7 +65,7 @@ back_to eff sequence (Some e) echo = Some (returned eff sequence e)
 abbrev pub takes_back : Config → ℕ → ℕ → Flow → Flow
 takes_back c eff sequence f = record f { echo = back_to eff sequence (echoing c f.course.vars f.echo) f.echo }
 
--- one that runs goes on; else one begins, with the next number
+-- a running Echo function goes on; else one begins, with the next number
 abbrev pub goes_on : ℕ → ℕ → Option Echo → Echo
 goes_on eff next None = echo_begun eff next
 goes_on eff next (Some e) = e

@@ -138,7 +138,7 @@ acted (Tail c) eff (Packet arrival) f = along f (tail_receive.received c eff arr
 acted (Tail c) eff (Command cmd) f = along f (tree_command.tail_commanded c cmd f.course)
 acted _ eff _ f = f
 
--- the end of the event: the extra packet, the next due tick, and the Echo function starts or stops; a tail's ends with nothing
+-- the end of the event: the extra packet, the next due tick, and the Echo function starts or stops; none of these for a tail
 abbrev pub finished : SessionConfig → ℕ → Flow → Flow
 finished (Pair c) eff f = turns_echo c eff (along f (pair_finish.finish c eff f.course))
 finished (Seek c) eff f = along f (seek_finish.finish c eff f.course)
@@ -205,7 +205,7 @@ abbrev pub answer_to_return : Bool → Answer
 answer_to_return true = Handled
 answer_to_return false = Dropped EchoStale
 
--- the verdict on a packet, by the variables after settling; no packet is a head's
+-- the verdict on a packet, by the variables after settling; a head receives no packets
 abbrev pub verdict_by : SessionConfig → Arrival → Vars → Verdict
 verdict_by (Pair c) arrival v = pair_receive.verdict_on c arrival.ttl arrival.payload v
 verdict_by (Seek c) arrival v = seek_receive.verdict_on arrival.payload v

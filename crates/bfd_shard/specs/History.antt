@@ -12,7 +12,7 @@ use Rattle.bfd_shard.specs.declared.entry.ShardEvent.{ShardEvent}
 use Rattle.bfd_shard.specs.declared.entry.ShardEvent.TheVariants.{Own, Tick}
 use Rattle.bfd_shard.specs.declared.entry.Entry.{Entry}
 
--- the history that a journal holds: the events, without who brought each
+-- the history that a journal holds: its events, without their callers
 abbrev pub events_of : List Entry → List ShardEvent
 events_of journal = map (λ entry. entry.event) journal
 

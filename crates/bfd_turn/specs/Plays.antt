@@ -18,7 +18,7 @@ module _ {N : Type 0} where
   AllKept by joined notes = All (λ (j : ℕ × List N). calls by j.0 notes ≡ j.1) joined
 
 module _ {N B : Type 0} where
-  -- what a load shows: the word has reached what the view has met, and what the view has seen begins one history
+  -- what a load shows: the word has reached what the view has met, and all that the view has seen is of one history
   pub record Shows (by : N → ℕ) (v : View N B) (n : ℕ) : Type 0 where
     pub reached : v.word ≤ n
     pub room : n + 1 < 2 ^ 64

@@ -23,7 +23,7 @@ OnBadLine (BadLine line fault) P = P (record { line = line; fault = fault })
 OnBadLine status P = ⊤
 
 -- a run of this job may end so. Only a job that serves ends at a port, a link, a journal, turns or the ticker. Only one that watches
--- ends at a member that names no session, and only one that reads at its source or the text of that
+-- ends at a member that names no session. Only one that reads ends at its source or the source's text
 abbrev pub IsEndOf : Option Job → Status → Type 0
 IsEndOf job PortFault = is_serving job ≡ true
 IsEndOf job (LinkFault number) = is_serving job ≡ true
