@@ -1,4 +1,4 @@
--- What the authentication types require of a section and of its digest (RFC 5880 sections 4.2 to 4.4).
+-- What the authentication types ask of a section and of its digest (RFC 5880 sections 4.2 to 4.4).
 use Rattle.std.specs.Prelude.{◌+◌, ◌-◌, ◌++◌, if◌then◌else◌, ℕ, Bool, true, false, List, length, take, drop, replicate}
 use Rattle.md5.specs.Md5.{md5}
 use Rattle.sha1.specs.Sha1.{sha1}
@@ -23,7 +23,7 @@ uses_sha1 _ = false
 abbrev pub digest_of : AuthType → List ℕ → List ℕ
 digest_of kind message = if uses_sha1 kind then sha1 message else md5 message
 
--- the Auth Len that the type and the key require
+-- the Auth Len that the type and the key ask for
 abbrev pub section_length : AuthType → Key → ℕ
 section_length kind key = if is_password kind then length key.secret + 3 else digest_size kind + 8
 

@@ -16,7 +16,7 @@ use Rattle.bfd_auth.specs.Digests.{is_meticulous, digest_of, section_length, pad
 abbrev pub packet_key : List Key → List ℕ → Option Key
 packet_key keys raw = if nat_le (length raw) 26 then None else key_named (slice_index raw 26) keys
 
--- Auth Len is what the type and the key require, and doesn't run past the packet
+-- Auth Len is what the type and the key ask for, and doesn't run past the packet
 abbrev pub has_section_length : Kind → Key → List ℕ → Bool
 has_section_length kind key raw =
     slice_index raw 25 == section_length kind key && nat_le (slice_index raw 25) (length raw - 24)

@@ -27,7 +27,7 @@ unfoldable pub detection : Config → ℕ → ℕ → Course → Course
 detection c limit eff s =
     if has_come limit (deadline s.vars) then moves c.discr eff (goes_silent (forgets_peer s.vars)) s else s
 
--- the received sequence number is forgotten
+-- the received sequence number is no longer known
 abbrev pub forgets_sequence : Vars → Vars
 forgets_sequence v =
     record v { seq = record { xmit = v.seq.xmit; rcv = v.seq.rcv; known = false }; seq_heard = None }

@@ -70,7 +70,7 @@ pub record IsRenewed (v : Vars) : Type 0 where
   pub settled_rx : is_idle v.poll ≡ true → v.used_rx ≡ v.rx
   pub rx_at_least : v.rx ≤ v.used_rx
 
--- when a packet was heard, the peer's Detect Mult is known
+-- when a packet or a sequence number was heard, the peer's Detect Mult is known
 pub record HasPeerMult (v : Vars) : Type 0 where
   pub heard_mult : IsSome v.heard → 0 < v.remote_mult
   pub seq_mult : IsSome v.seq_heard → 0 < v.remote_mult
