@@ -66,7 +66,7 @@ pub record IsOpenedFor (engine : Shards) (configs : List SessionConfig) (pool : 
 abbrev pub HasSeen : Shards → List ShardEvent → Knows → Type 0
 HasSeen engine past k = (r : ℕ) → r < length engine.locks → seen_at k r ≡ entries_by 0 (history_of (length engine.locks) r past)
 
--- the outcome of an event: its own if it is of no session, else that of these sessions at this last tick
+-- the outcome of an event: its own if no session has it, else that of these sessions at this last tick
 abbrev pub outcome_in : ℕ → Happening → List Running → Outcome
 outcome_in last (Apart outcome) sessions = outcome
 outcome_in last (Among event) sessions = outcome_of last event sessions
