@@ -22,7 +22,7 @@ abbrev pub digest_section : AuthType → Key → ℕ → List ℕ → List ℕ
 digest_section kind key sequence bytes =
     section_start kind key ++ (0 ∷ [] ++ (big_bytes 4 sequence ++ bytes))
 
--- the packet whose digest's place holds the padded key: what the digest is made of
+-- the packet whose digest's place holds the padded key: the digest is computed over it
 abbrev pub keyed_text : AuthType → Key → ℕ → Control → List ℕ
 keyed_text kind key sequence c = text_of c (digest_section kind key sequence (padded kind key))
 
@@ -32,10 +32,10 @@ section_of kind key sequence c =
     if is_password kind then password_section kind key
     else digest_section kind key sequence (digest_of kind (keyed_text kind key sequence c))
 
--- the packet's bytes, made with the key at the place `sending`
+-- the packet's bytes, sealed with the key at the place `sending`
 unfoldable pub sealed : KeyChain → ℕ → SeqState → Control → List ℕ
 sealed keys sending seq c = text_of c (section_of keys.kind (key_at sending keys.list) seq.xmit c)
 
--- the sequence state after it: each type but Simple Password takes the next number, modulo 2 ^ 32
+-- the sequence state after it: each type but Simple Password goes on to the next number, modulo 2 ^ 32
 unfoldable pub sealed_seq : KeyChain → SeqState → SeqState
 sealed_seq keys seq = if is_password keys.kind then seq else record seq { xmit = (seq.xmit + 1) % 2 ^ 32 }

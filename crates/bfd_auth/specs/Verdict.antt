@@ -29,14 +29,14 @@ sequence_of raw = word_at 28 raw
 abbrev pub window : ℕ → ℕ → ℕ → Bool
 window lo width s = nat_le ((s + (2 ^ 32 - lo)) % 2 ^ 32) width
 
--- the sequence number is among those after the last one heard: up to three times the packet's Detect Mult
--- further, and the last one itself where the type isn't meticulous
+-- the sequence number is at most three times the packet's Detect Mult after the last one heard; it may be the last one
+-- itself if the type isn't meticulous
 abbrev pub in_window : Kind → ℕ → ℕ → ℕ → Bool
 in_window kind last mult s =
     if is_meticulous kind then window ((last + 1) % 2 ^ 32) (3 * mult - 1) s
     else window last (3 * mult) s
 
--- the sequence number may be heard: the type has none, or no number is known, or it lies in the window
+-- the sequence number may be accepted: the type has none, or no number is known, or it lies in the window
 abbrev pub may_hear : Kind → SeqState → ℕ → ℕ → Bool
 may_hear kind seq mult s = is_password kind || (not seq.known || in_window kind seq.rcv mult s)
 

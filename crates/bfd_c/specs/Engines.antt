@@ -1,5 +1,5 @@
--- An engine behind a handle, and what a call makes of it. A call's code is 0 where it did its work, 1 where the handle is closed, 2 when
--- out of memory, 3 where a value is outside its range, 4 where nothing is left, 5 where a text is no table and 6 where it has event lines.
+-- An engine behind a handle, and how a call changes it. A call's code is 0 if it did its work, 1 if the handle is closed, and 2 when
+-- out of memory. It is 3 if a value is outside its range, 4 if nothing is left, 5 if a text is no table, and 6 if it has event lines.
 use Rattle.std.specs.Prelude.{ℕ, List, [], ◌∷◌, Option, None, Some, Result, Ok, Err, map}
 use Rattle.bfd_lanes.specs.Places.{least}
 use Rattle.bfd_rules.specs.declared.outputs.Out.{Out}
@@ -16,8 +16,8 @@ use Rattle.bfd_instance.specs.World.{World, discr_reached, happens, opened}
 use Rattle.bfd_c.specs.declared.records.kept.Record.{Record}
 use Rattle.bfd_c.specs.Records.{fresh, recorded}
 
--- an engine: its sessions and reflectors with the greatest tick so far, the outputs of the last event that are left to be read,
--- what it was answered, the discriminator of the session to which it came, or 0, and what is kept of each session
+-- an engine: its sessions and reflectors with the greatest tick so far, and the record of each session. Of the last event: the
+-- outputs that are left to be read, its answer, and the discriminator of the session to which it came, or 0
 pub record Instance : Type 0 where
   pub world : World
   pub left : List Out
@@ -39,7 +39,7 @@ instance_after line e = record {
   records = recorded line e.world e.records;
 }
 
--- an event that was asked for, or values of which one is outside its range; and the code
+-- the engine after an event that was asked for, or unchanged if one of the values is outside its range; and the code
 abbrev pub asked : Option Line → Instance → Instance × ℕ
 asked None e = (e, 3)
 asked (Some line) e = (instance_after line e, 0)
@@ -53,17 +53,17 @@ held_by call (Some e) = (Some (call e).0, (call e).1)
 abbrev pub called : Option Line → Option Instance → Option Instance × ℕ
 called line held = held_by (asked line) held
 
--- what a handle that held this holds once it was opened with a script, a table alone, and the code
+-- what a handle that held this holds after it was opened with a script, which must be a table alone; and the code
 abbrev pub opened_with : Lists → List Line → Option Instance → Option Instance × ℕ
 opened_with s [] held = (Some (new_instance s.configs s.pool), 0)
 opened_with s (event ∷ events) held = (held, 6)
 
--- once it was opened with a text
+-- after it was opened with a text
 abbrev pub opened_by : Result Lists BadLine → Option Instance → Option Instance × ℕ
 opened_by (Err bad) held = (held, 5)
 opened_by (Ok s) held = opened_with s s.events held
 
--- once it was opened with one session; without, a value is outside its range
+-- after it was opened with one session; without one, a value is outside its range
 abbrev pub opened_for : Option SessionConfig → Option Instance → Option Instance × ℕ
 opened_for None held = (held, 3)
 opened_for (Some config) held = (Some (new_instance (config ∷ []) []), 0)

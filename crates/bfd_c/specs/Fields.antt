@@ -1,4 +1,4 @@
--- Which session the fields of C stand for, with the ranges of the packet file. What a kind doesn't use counts for nothing.
+-- Which session the fields of C stand for, with the ranges of the packet file. Fields that a kind doesn't use are ignored.
 use Rattle.std.specs.Prelude.{ℕ, ◌==◌, ◌&&◌, ◌||◌, Bool, List, nat_le, nat_lt, Option, None, Some, take, if◌then◌else◌}
 use Rattle.bfd_packet.specs.declared.arrival.Addr.{Addr}
 use Rattle.bfd_packet.specs.declared.keys.AuthType.{AuthType}
@@ -12,11 +12,11 @@ use Rattle.bfd_script.specs.Secrets.{kind_by, one_key}
 use Rattle.bfd_c.specs.declared.fields.Fields.{Fields}
 use Rattle.bfd_c.specs.Wire.{addr_of}
 
--- one key, where its length is one that the type allows
+-- one key, if its length is one that the type allows
 abbrev pub key_by : AuthType → ℕ → List ℕ → Option KeyChain
 key_by kind id secret = if fits_kind kind secret then Some (one_key kind id secret) else None
 
--- a session's keys, where there are some
+-- a session's keys, if there are some
 abbrev pub some_keys : Option KeyChain → Option (Option KeyChain)
 some_keys None = None
 some_keys (Some keys) = Some (Some keys)
@@ -36,7 +36,7 @@ has_name f = nat_le 1 f.discr && nat_lt f.iface 65536
 abbrev pub has_sending : Fields → Bool
 has_sending f = is_interval f.tx && (nat_le 1 f.mult && nat_lt f.mult 256)
 
--- what a point-to-point session has besides
+-- the fields that only a point-to-point session has
 abbrev pub is_paired : Role → Fields → Bool
 is_paired role f = nat_lt f.active 2 && (is_interval f.rx && is_echo_interval role f.echo)
 

@@ -19,7 +19,7 @@ tick_line t = if nat_le t greatest_tick then Some (events.Tick t) else None
 abbrev pub show_line : ℕ → ℕ → Option Line
 show_line moment discr = if nat_lt moment moment_bound && nat_le 1 discr then Some (events.Show moment discr) else None
 
--- a command by its number; those without a number of their own leave the value alone
+-- a command by its number; commands without a value ignore it
 abbrev pub cmd_of : ℕ → ℕ → Option Cmd
 cmd_of verb value =
     if verb == 1 then Some cmd.Disable
@@ -51,6 +51,6 @@ rx_by moment (Some arrival) = Some (events.Rx moment arrival)
 abbrev pub packet_line : Packet → List ℕ → Option Line
 packet_line packet payload = if nat_lt packet.moment moment_bound then rx_by packet.moment (arrival_from_c packet payload) else None
 
--- an engine to which it was handed in, and the code
+-- an engine after it has received that packet, and the code
 abbrev pub packet_asked : Packet → List ℕ → Instance → Instance × ℕ
 packet_asked packet payload e = sized (packet.size == packet_size) (λ code. (e, code)) (asked (packet_line packet payload) e)

@@ -1,4 +1,4 @@
--- What C reads of a session at a look, field by field. What there is none of is 0.
+-- What C reads of a session at a look, field by field. What is absent is 0.
 use Rattle.std.specs.Prelude.{ℕ, ◌==◌, Bool, true, false, Option, None, Some}
 use Rattle.bfd_packet.specs.Layout.{state_number}
 use Rattle.bfd_c.specs.declared.records.looking.Look.{Look}
@@ -45,7 +45,7 @@ state_for_c l = record {
   dropped = l.kept.dropped;
 }
 
--- what stands in the struct afterwards, and the code: 10 where no session has the discriminator
+-- what the struct holds afterwards, and the code: 10 if no session has the discriminator
 abbrev pub state_by : Option Look → SessionState → SessionState × ℕ
 state_by None before = (before, 10)
 state_by (Some l) before = (state_for_c l, 0)

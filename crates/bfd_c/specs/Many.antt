@@ -1,4 +1,4 @@
--- Packets handed in many at once, and outputs read many at once: each as by a call of its own, in their order.
+-- Many packets handled by one call, and many outputs read by one call: each as by a call of its own, in their order.
 use Rattle.std.specs.Prelude.{ℕ, zero, suc, ◌+◌, ◌==◌, ◌&&◌, ◌||◌, Bool, List, [], ◌∷◌, length, drop, min, nat_lt, take, Option, None, Some}
 use Rattle.std.specs.Prelude.{if◌then◌else◌}
 use Rattle.std.specs.List.{list_all}
@@ -16,7 +16,7 @@ use Rattle.bfd_c.specs.Telling.{answer_for_c, output_of}
 abbrev pub line_of_arrived : Arrived → Option Line
 line_of_arrived a = packet_line a.packet a.payload.now
 
--- what comes of many packets: the engine, the places with the answers of those that were handled, how many these are, and the code
+-- the result of many packets: the engine, the places with the answers of those that were handled, how many these are, and the code
 pub record Handed : Type 0 where
   pub engine : Instance
   pub answers : List Answered
@@ -27,28 +27,28 @@ pub record Handed : Type 0 where
 abbrev pub none_handed : ℕ → List Answered → Instance → Handed
 none_handed code answers e = record { engine = e; answers = answers; packets = 0; code = code }
 
--- one was handled, with this answer, before those of which this came
+-- one was handled, with this answer, before those that had this result
 abbrev pub one_before : Answered → Handed → Handed
 one_before answer behind = record behind { answers = answer ∷ behind.answers; packets = behind.packets + 1 }
 
--- behind a packet that left outputs none is handled, so that they can be read; else those behind it are
+-- after a packet that left outputs, no other is handled, so that the outputs can be read; else those behind it are
 abbrev pub handed_behind : List Out → Answered → List Answered → Instance → Handed → Handed
 handed_behind [] answer answers after behind = one_before answer behind
 handed_behind (out ∷ outs) answer answers after behind = one_before answer (none_handed 0 answers after)
 
--- one packet, and then those behind it; where its values ask for no event, none is handled
+-- one packet, and then those behind it; if its values ask for no event, none is handled
 abbrev pub handed_by : Option Line → Answered → List Answered → Instance → Handed → Handed
 handed_by None place answers e behind = none_handed 3 (place ∷ answers) e
 handed_by (Some line) place answers e behind =
     handed_behind (instance_after line e).left (answer_for_c (instance_after line e).discr (instance_after line e).answer) answers
     (instance_after line e) behind
 
--- why a packet isn't handled for which there is no memory
+-- the code when there is no memory for a packet
 abbrev pub unhandled_code : Option Line → ℕ
 unhandled_code None = 3
 unhandled_code (Some line) = 2
 
--- packets one after another with places for their answers, where there is memory for the first so many
+-- packets one after another with places for their answers, when there is memory for the first so many
 abbrev pub handed : ℕ → List Arrived → List Answered → Instance → Handed
 handed memory [] places e = none_handed 0 places e
 handed memory (a ∷ arrivals) [] e = none_handed 0 [] e
@@ -63,8 +63,8 @@ are_packets_sized arrivals = list_all (λ a. a.packet.size == packet_size) arriv
 abbrev pub are_answers_sized : List Answered → Bool
 are_answers_sized places = list_all (λ place. place.size == answered_size) places
 
--- the same of a handle: what it holds, the places, how many were handled, and the code; none is above 64 packets, where a place is
--- missing, or where a packet or its place has another size
+-- the same of a handle: what it holds, the places, how many were handled, and the code. None is handled if there are more than 64
+-- packets, if a place is missing, or if a packet or its place has another size
 abbrev pub handed_fields : Handed → Option Instance × (List Answered × (ℕ × ℕ))
 handed_fields h = (Some h.engine, (h.answers, (h.packets, h.code)))
 
@@ -75,7 +75,7 @@ handed_to memory arrivals places (Some e) =
     else sized (are_packets_sized arrivals && are_answers_sized (take (length arrivals) places)) (λ code. (Some e, (places, (0, code))))
     (handed_fields (handed memory arrivals places e))
 
--- outputs in these places, from the first on; what stands in the others stays
+-- outputs in these places, from the first on; the other places don't change
 abbrev pub outputs_in : List Out → List Output → List Output
 outputs_in [] places = places
 outputs_in (out ∷ outs) [] = []
@@ -93,7 +93,7 @@ many_by (out ∷ outs) places e = sized (are_outputs_sized (take (length (out �
   (outputs_in (out ∷ outs) places, (min (length places) (length (out ∷ outs)), 0)),
 )
 
--- the same of a handle; without a place, and above 64, nothing is read
+-- the same of a handle; without a place, or with more than 64, nothing is read
 abbrev pub held_with : Instance × (List Output × (ℕ × ℕ)) → Option Instance × (List Output × (ℕ × ℕ))
 held_with read = (Some read.0, read.1)
 

@@ -1,4 +1,4 @@
--- The names for C of what a call, an event or a packet may say, each by its kind and its number.
+-- The names for C of codes, faults, tests, refusals, states, diagnostics and outputs, each by its kind and its number.
 use Rattle.std.specs.Prelude.{ℕ, ◌==◌, ◌++◌, List, [], ◌∷◌, Option, None, Some, map, replicate, codes, slice_get, if◌then◌else◌}
 use Rattle.bfd_packet.specs.declared.discard.Test.TheVariants as tests
 use Rattle.bfd_packet.specs.declared.control.State.TheVariants as states
@@ -9,7 +9,7 @@ use Rattle.bfd_rules.specs.Names.{refusal_name}
 use Rattle.bfd_script.specs.declared.fields.fault.LineFault.TheVariants as faults
 use Rattle.bfd_script.specs.Complaints.{fault_name}
 
--- Each list has the names of one kind in the order of their numbers, from 0 on. Where a number is of nothing, the empty name stands.
+-- Each list has the names of one kind in the order of their numbers, from 0 on. A number without a name has the empty one.
 abbrev pub code_names : List (List ℕ)
 code_names = codes "Done" ∷ codes "Closed" ∷ codes "Memory" ∷ codes "Range" ∷ codes "End" ∷ codes "Text" ∷ codes "Events"
     ∷ codes "TakenDiscr" ∷ codes "TakenAddresses" ∷ codes "Full" ∷ codes "NotFound" ∷ codes "Size" ∷ []
@@ -72,17 +72,17 @@ zero_ended (letter ∷ letters) = letter ∷ (letters ++ (0 ∷ []))
 abbrev pub texts_of : List (List ℕ) → List (List ℕ)
 texts_of names = map zero_ended names
 
--- a text that has a zero at least
+-- a text that has at least its zero
 abbrev pub some_text : Option (List ℕ) → Option (List ℕ)
 some_text None = None
 some_text (Some []) = None
 some_text (Some (byte ∷ bytes)) = Some (byte ∷ bytes)
 
--- the text for a kind and a number, where there is such a name
+-- the text for a kind and a number, if there is such a name
 abbrev pub text_by : ℕ → ℕ → Option (List ℕ)
 text_by kind number = some_text (slice_get (texts_of (names_by kind)) number)
 
--- what stands in the text of a caller afterwards, and the code
+-- what the text of a caller holds afterwards, and the code
 abbrev pub text_read : Option (List ℕ) → List ℕ → List ℕ × ℕ
 text_read None before = (before, 3)
 text_read (Some text) before = (text, 0)

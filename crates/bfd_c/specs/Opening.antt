@@ -1,4 +1,4 @@
--- What opening a handle hands out.
+-- What opening a handle returns.
 use Rattle.std.specs.Prelude.{ℕ, ◌≡◌, ◌≢◌, ◌==◌, List, [], ◌∷◌, Option, Result, Ok, Err, if◌then◌else◌}
 use Rattle.bfd_session.specs.declared.event.SessionConfig.{SessionConfig}
 use Rattle.bfd_script.specs.declared.fields.fault.BadLine.{BadLine}
@@ -16,7 +16,7 @@ use Rattle.bfd_c.specs.Telling.{complaint_of}
 abbrev pub one : SessionConfig → List SessionConfig
 one config = config ∷ []
 
--- what stands in the struct of a complaint after a call that answered this code
+-- what the struct of a complaint holds after a call that answered this code: with code 5 the complaint, if the text has one
 abbrev pub complaint_by : Result Lists BadLine → Complaint → Complaint
 complaint_by (Err bad) before = complaint_of bad
 complaint_by (Ok s) before = before
@@ -24,12 +24,12 @@ complaint_by (Ok s) before = before
 abbrev pub complained : ℕ → Result Lists BadLine → Complaint → Complaint
 complained code text before = if code == 5 then complaint_by text before else before
 
--- a text that is a table alone comes to its engine
+-- a text that is a table alone gives its engine
 abbrev pub IsOpenedWith : Result Lists BadLine → Instance → Type 0
 IsOpenedWith (Err bad) e = ⊥
 IsOpenedWith (Ok s) e = (s.events ≡ []) × (e ≡ new_instance s.configs s.pool)
 
--- any other text comes to its complaint, or to its having event lines; or memory runs out
+-- why any other text gives none: its complaint, or its event lines; or memory ran out
 abbrev pub IsWhy : Result Lists BadLine → Unopened → Type 0
 IsWhy text Memory = Unit {0}
 IsWhy (Err bad) (Bad b) = b ≡ bad
@@ -37,7 +37,7 @@ IsWhy (Ok s) (Bad b) = ⊥
 IsWhy (Err bad) Events = ⊥
 IsWhy (Ok s) Events = s.events ≢ []
 
--- what a handle holds after it was opened with a text, which may be complained of in this struct, and the code
+-- what a handle holds after it was opened with a text, with this struct for its complaint; and the code
 abbrev pub opened_telling : Complaint → Result Lists BadLine → Option Instance → Option Instance × ℕ
 opened_telling before text held = sized (before.size == complaint_size) (λ code. (held, code)) (opened_by text held)
 

@@ -1,4 +1,4 @@
--- What the calls that read hand out, and what they leave.
+-- What the calls that read return, and what they change.
 use Rattle.std.specs.Prelude.{ℕ, ◌==◌, Option, None, Some, List, [], ◌∷◌}
 use Rattle.bfd_rules.specs.declared.outputs.Out.{Out}
 use Rattle.bfd_c.specs.declared.telling.Output.{Output}
@@ -7,17 +7,17 @@ use Rattle.bfd_c.specs.Engines.{Instance, soonest}
 use Rattle.bfd_c.specs.Sizes.{answered_size, output_size, sized}
 use Rattle.bfd_c.specs.Telling.{output_of, answer_for_c}
 
--- what an engine is once the first output that is left was read, and the code
+-- an engine after the first output that is left was read, and the code
 abbrev pub next_by : List Out → Instance → Instance × ℕ
 next_by [] e = (e, 4)
 next_by (out ∷ outs) e = (record e { left = outs }, 0)
 
--- what stands in the struct of an output afterwards, where this stood before
+-- what the struct of an output holds afterwards, if it held this before
 abbrev pub output_read : List Out → Output → Output
 output_read [] before = before
 output_read (out ∷ outs) before = output_of out
 
--- the same of an engine that is asked for the next output in a struct: what it is then, with the code, and what stands in the struct
+-- the same of an engine that is asked for the next output in a struct: the engine with the code, and what the struct holds
 abbrev pub next_asked : Output → Instance → Instance × ℕ
 next_asked before e = sized (before.size == output_size) (λ code. (e, code)) (next_by e.left e)
 
@@ -28,7 +28,7 @@ abbrev pub output_read_of : Option Instance → Output → Output
 output_read_of None before = before
 output_read_of (Some e) before = output_asked before e
 
--- what stands in the struct of an answer afterwards, and the code
+-- what the struct of an answer holds afterwards, and the code
 abbrev pub answer_read : Option Instance → Answered → Answered × ℕ
 answer_read None before = (before, 1)
 answer_read (Some e) before = sized (before.size == answered_size) (λ code. (before, code)) (answer_for_c e.discr e.answer, 0)

@@ -1,4 +1,4 @@
--- What is kept of each session beside its variables, and what an event adds to it.
+-- What is kept of each session in addition to its variables, and what an event adds to it.
 use Rattle.std.specs.Prelude.{ℕ, ◌+◌, ◌-◌, ◌*◌, ◌^◌, max, min, Option, None, Some, List, [], ◌∷◌, map, replicate, slice_get, slice_index}
 use Rattle.std.specs.Prelude.{slice_index_or, slice_set}
 use Rattle.std.specs.List.{insert, remove}
@@ -111,7 +111,7 @@ abbrev pub came_with : Line → Came
 came_with (Rx moment arrival) = came_on arrival.port arrival
 came_with _ = Nothing
 
--- a packet was dropped by this test
+-- a packet was received, and dropped by this test
 abbrev pub discarded_by : Test → Record → Record
 discarded_by test r =
     record r {
@@ -120,7 +120,7 @@ discarded_by test r =
           slice_set r.dropped (test_number test) (one_counted (slice_index r.dropped (test_number test)));
     }
 
--- what came to the session had this answer, at this moment
+-- what the session received had this answer, at this moment
 abbrev pub answered_with : Came → Answer → ℕ → Record → Record
 answered_with Nothing answer moment r = r
 answered_with Echoed (Dropped test) moment r = discarded_by test r
@@ -148,19 +148,19 @@ abbrev pub giver : Out → ℕ
 giver (Sent discr datagram) = discr
 giver (Changed discr was state diag) = discr
 
--- each output is told of the session that it names
+-- each output is recorded for the session that it names
 abbrev pub all_given : World → List Record → List Out → List Record
 all_given w rs [] = rs
 all_given w rs (out ∷ outs) = all_given w (changed_at (place_of (giver out) (configs_of w.sessions)) (gave out) w rs) outs
 
--- the records after an event: first what came is told of the session to which it came, then its outputs
+-- the records after an event: first what came is recorded for the session to which it came, then the outputs are
 abbrev pub recorded : Line → World → List Record → List Record
 recorded line w rs =
     let after : World = (happens line w).world in
     all_given after (changed_at (place_reached line w) (answered_with (came_with line) (happens line w).outcome.answer) after rs)
     (happens line w).outcome.items
 
--- the records with one of a session more, at its place, and without that of a discriminator
+-- the records with that of one more session, at its place, and without that of a discriminator
 abbrev pub records_with : SessionConfig → World → List Record → List Record
 records_with config w rs = insert rs (place_for (discr_of config) (configs_of w.sessions)) (fresh config)
 

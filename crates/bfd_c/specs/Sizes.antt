@@ -19,6 +19,6 @@ output_size = 120
 abbrev pub complaint_size : ℕ
 complaint_size = 16
 
--- what a call comes to whose structs have sizes that this version knows, or don't: then it does nothing, and the code is 11
+-- the result of a call whose structs have sizes that this version knows; if they don't, it does nothing, and the code is 11
 abbrev pub sized : {X : Type 0} → Bool → (ℕ → X) → X → X
 sized known refused done = if known then done else refused 11

@@ -29,7 +29,7 @@ zero_filled size bytes = bytes ++ replicate (size - length bytes) 0
 abbrev pub name_bytes : List ℕ → List ℕ
 name_bytes name = zero_filled 20 name
 
--- where nothing is sent
+-- the address when nothing is sent
 abbrev pub nowhere : Address
 nowhere = record { family = 0; bytes = replicate 16 0 }
 
@@ -114,7 +114,7 @@ view_of s = record {
   detect = s.detect;
 }
 
--- what an event was answered that came to the session of a discriminator, or to none
+-- the answer to an event that came to the session of a discriminator, or to none
 abbrev pub answer_for_c : ℕ → Answer → Answered
 answer_for_c discr Handled = plain_answer 0 0 (replicate 20 0) discr
 answer_for_c discr Ticked = plain_answer 1 0 (replicate 20 0) discr

@@ -32,7 +32,7 @@ port_by_number n =
     else if n == 5 then Some Answer
     else None
 
--- a packet, where its port and its addresses are some
+-- a packet, if its port and its addresses are valid
 abbrev pub arrival_with : Packet → List ℕ → Option Port → Option Addr → Option Addr → Option Arrival
 arrival_with packet payload None src dst = None
 arrival_with packet payload (Some port) None dst = None
@@ -48,7 +48,7 @@ arrival_with packet payload (Some port) (Some src) (Some dst) =
       payload = take 256 payload;
     })
 
--- a packet with its payload, where its interface has a number that the packet file has too
+-- a packet with its payload, if its interface has a number that the packet file allows too
 abbrev pub arrival_from_c : Packet → List ℕ → Option Arrival
 arrival_from_c packet payload =
     if nat_lt packet.iface 65536 then arrival_with packet payload (port_by_number packet.port) (addr_of packet.src) (addr_of packet.dst)

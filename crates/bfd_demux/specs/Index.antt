@@ -42,7 +42,7 @@ heard_on Seek = Some AnswerPort
 heard_on Reflect = Some SbfdPort
 heard_on _ = None
 
--- what an arrival on the port looks its discriminator up as
+-- the name by which an arrival on the port looks up its discriminator
 abbrev pub name_on : Port → ℕ → Name
 name_on SbfdPort discr = Reflector discr
 name_on _ discr = Session discr
@@ -65,7 +65,7 @@ is_heard _ _ = false
 abbrev pub names_of : List Row → List (Name × Option Port)
 names_of rows = map (λ row. (row_name row, heard_on row.kind)) rows
 
--- the discriminators of all rows, with nothing beside them
+-- the discriminators of all rows, each with an empty value
 abbrev pub discrs_of : List Row → List (ℕ × Unit {0})
 discrs_of rows = map (λ row. (row.discr, tt)) rows
 

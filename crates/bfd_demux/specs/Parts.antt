@@ -1,4 +1,4 @@
--- What the parts of a selection give, each for its kind of packet. Together they are the definitions of Selection.
+-- The results of the parts of a selection, each for its kind of packet. Together they are the definitions of Selection.
 use Rattle.std.specs.Prelude.{ℕ, Bool, false, not, ◌==◌, ◌&&◌, Option, Some, None, List, [], ◌∷◌, find, Result, Ok, Err, if◌then◌else◌}
 use Rattle.std.specs.List.{list_any}
 use Rattle.std.specs.Option.{option_map}
@@ -37,7 +37,7 @@ abbrev pub echo_target : List Row → List ℕ → Row → Target
 echo_target rows payload row = Echo (session_index rows row.discr) (word_at 8 payload)
 
 -- the sentence of each test of a packet that is neither multipoint nor a reflector's: by its fields, and by the
--- kind and addresses that name a row where Your Discriminator is 0
+-- kind and addresses that name a row when Your Discriminator is 0
 abbrev pub selection_fails : Port → Test → Control → Option RowKind → List Row → Bool
 selection_fails port YourUnknown packet selector rows = not (packet.your == 0) && not (knows rows port packet.your)
 selection_fails port YourZeroState packet selector rows = (packet.your == 0) && is_init_or_up packet.state

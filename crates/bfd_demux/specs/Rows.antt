@@ -1,4 +1,4 @@
--- The rows of a table, and the faults of rows that make none.
+-- The rows of a table, and the faults of rows that can't form one.
 use Rattle.std.specs.Prelude.{ℕ, Bool, true, false, ◌==◌, ◌&&◌, nat_lt, Option, Some, None, List, [], ◌∷◌, ◌++◌, length, nat_le, position}
 use Rattle.std.specs.Prelude.{if◌then◌else◌}
 use Rattle.std.specs.List.{list_any, position_from}
@@ -12,7 +12,7 @@ use Rattle.bfd_demux.specs.declared.fault.BuildFault.TheVariants.{SameDiscr, Sam
 use Rattle.bfd_demux.specs.declared.fault.AddFault.{AddFault}
 use Rattle.bfd_demux.specs.declared.fault.AddFault.TheVariants as adding
 
--- one kind, and the same addresses: a packet without Your Discriminator can't tell the two apart (RFC 5880
+-- one kind, and the same addresses: a packet without Your Discriminator can't distinguish the two (RFC 5880
 -- section 6.3, RFC 8562 section 5.7)
 abbrev pub same_selector : RowKind → RowKind → Bool
 same_selector (Single iface local remote) (Single iface' local' remote') =
@@ -37,7 +37,7 @@ same_discr row other = row.discr == other.discr
 abbrev pub same_addresses : Row → Row → Bool
 same_addresses row other = same_selector row.kind other.kind
 
--- the least row that is like an earlier one, and the least that it is like: their places
+-- the first row that is like an earlier one: the place of the first such earlier one, and its own place
 abbrev pub repeat_after : (Row → Row → Bool) → List Row → List Row → Option (ℕ × ℕ)
 repeat_after same earlier [] = None
 repeat_after same earlier (row ∷ rows) = option_or (option_map (λ place. (place, length earlier)) (position_from (same row) 0 earlier))
@@ -51,7 +51,7 @@ first_repeat same rows = repeat_after same [] rows
 abbrev pub pair_fault : (ℕ → ℕ → BuildFault) → Option (ℕ × ℕ) → Option BuildFault
 pair_fault fault pair = option_map (λ places. fault places.0 places.1) pair
 
--- what is wrong with rows that is seen without memory: their number, or a discriminator of 0
+-- the faults of rows that are found without memory: their number, or a discriminator of 0
 abbrev pub early_fault : List Row → Option BuildFault
 early_fault rows =
     if nat_lt 65536 (length rows) then Some (TooMany (length rows)) else
@@ -65,7 +65,7 @@ build_fault rows =
     (option_or (pair_fault SameDiscr (first_repeat same_discr rows))
     (pair_fault SameAddresses (first_repeat same_addresses rows)))
 
--- what keeps one row more from a table of these, in the same order
+-- why one more row can't join a table of these, in the same order
 abbrev pub add_fault : Row → List Row → Option AddFault
 add_fault row rows =
     if nat_le 65536 (length rows) then Some adding.TooMany

@@ -62,12 +62,12 @@ abbrev pub row_has_selector : Option RowKind → Row → Bool
 row_has_selector None row = false
 row_has_selector (Some kind) row = same_selector kind row.kind
 
--- M is set on the port that takes multipoint packets (RFC 8562)
+-- M is set on the port that receives multipoint packets (RFC 8562)
 abbrev pub is_multipoint : Port → Arrival → Bool
 is_multipoint port arrival = takes_multipoint_of port && (fields_of arrival.payload).multi
 
--- the arrival on this port names the row: an echo packet by its second word, a multipoint packet as a tail does,
--- and any other by Your Discriminator, or where that is 0 by addresses
+-- the arrival on this port names the row: an echo packet by its second word, a multipoint packet by its tail's kind and
+-- addresses. Any other names it by Your Discriminator, or by addresses if that is 0
 abbrev pub names_on : Port → Arrival → Row → Bool
 names_on EchoPort arrival row = row_has_discr EchoPort (word_at 4 arrival.payload) row
 names_on port arrival row =
@@ -93,8 +93,8 @@ selected rows arrival = the_one (names_on arrival.port arrival) rows
 abbrev pub is_echo_form : List ℕ → Bool
 is_echo_form payload = (length payload == 16) && (word_at 0 payload == 0x4246_4465) && (word_at 12 payload == 0)
 
--- the discriminator isn't known on the port: that of an echo packet is its second word, a reflector's may not be
--- 0, and any other's may
+-- the discriminator isn't known on the port. An echo packet's is its second word. In a packet to a reflector 0 is
+-- unknown; in any other it isn't
 abbrev pub is_unknown : Port → List Row → Arrival → Bool
 is_unknown EchoPort rows arrival = not (knows rows EchoPort (word_at 4 arrival.payload))
 is_unknown SbfdPort rows arrival = ((fields_of arrival.payload).your == 0) || not (knows rows SbfdPort (fields_of arrival.payload).your)
@@ -117,7 +117,7 @@ abbrev pub tests_on_header : Port → List Test
 tests_on_header EchoPort = []
 tests_on_header port = header_tests port
 
--- the port's tests on the table, where M is set or isn't
+-- the port's tests on the table, by whether M is set
 abbrev pub tests_on_table : Port → Bool → List Test
 tests_on_table EchoPort multipoint = EchoForm ∷ YourUnknown ∷ []
 tests_on_table SbfdPort multipoint = YourUnknown ∷ []

@@ -1,4 +1,4 @@
--- How a fault of rows is told.
+-- The text that reports a fault of rows.
 use Rattle.std.specs.Prelude.{ℕ, List, ◌++◌, codes}
 use Rattle.std.specs.Fmt.{decimal}
 use Rattle.bfd_demux.specs.declared.fault.BuildFault.{BuildFault}

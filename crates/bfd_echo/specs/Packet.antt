@@ -1,5 +1,5 @@
 -- The echo packet. Its payload is a local matter, since its sender alone reads it (RFC 5880 section 5): this form is our
--- own. It goes to a port, and by addresses, that bring it back (RFC 5881 section 4).
+-- own. Its port and addresses bring it back (RFC 5881 section 4).
 use Rattle.std.specs.Prelude.{ℕ, List, ◌++◌}
 use Rattle.byteorder.specs.Endian.{big_bytes}
 use Rattle.bfd_packet.specs.declared.arrival.Addr.{Addr}
@@ -13,7 +13,7 @@ sign = 0x4246_4465
 unfoldable pub echo_text : ℕ → ℕ → List ℕ
 echo_text discr sequence = big_bytes 4 sign ++ (big_bytes 4 discr ++ (big_bytes 4 sequence ++ big_bytes 4 0))
 
--- these bytes on a session's interface, from the session's own address to that address, which the peer forwards back
+-- these bytes on a session's interface, with the session's own address as source and destination, so that the peer forwards them back
 abbrev pub echo_datagram : ℕ → Addr → List ℕ → Datagram
 echo_datagram iface local bytes = record {
   iface = iface;

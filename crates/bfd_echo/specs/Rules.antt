@@ -14,12 +14,12 @@ pub record HasMoments (e : Echo) : Type 0 where
   pub last_below : e.last < moment_bound
   pub sent_below : IfSome e.sent (λ m. m < moment_bound)
 
--- the Echo function starts: the first packet is due at the next tick, nothing is outstanding, and packets have as long
+-- the Echo function starts: the first packet is due at the next tick, and nothing is outstanding. Packets have as long
 -- to come back as if one had come back now
 unfoldable pub echo_begun : ℕ → ℕ → Echo
 echo_begun eff next = record { first = floor_tick eff + 1; sent = None; last = eff; back = next; next = next }
 
--- a packet came back (section 6.8.8): where its number was outstanding, the ones after it are awaited from now on
+-- a packet came back (section 6.8.8): if its number was outstanding, the ones after it are awaited from now on
 unfoldable pub returned : ℕ → ℕ → Echo → Echo
 returned eff s e = if is_outstanding e s then record e { back = next_sequence s; last = eff } else e
 
@@ -35,7 +35,7 @@ settled limit eff interval mult e =
     else if is_sending limit interval e then sent eff e
     else e
 
--- and what that gives
+-- the result of that
 unfoldable pub outcome : ℕ → ℕ → ℕ → ℕ → Echo → EchoResult
 outcome limit interval mult discr e =
     if has_failed limit interval mult e then Failed

@@ -1,5 +1,5 @@
--- The sequence numbers of echo packets, which go round after 2 ^ 32 - 1. By them a missing packet is noticed, for which
--- RFC 5880 section 6.8.8 leaves the means open.
+-- The sequence numbers of echo packets, which wrap after 2 ^ 32 - 1. They show that a packet is missing; RFC 5880
+-- section 6.8.8 leaves the means open.
 use Rattle.std.specs.Prelude.{ℕ, ◌+◌, ◌-◌, ◌%◌, ◌^◌, Bool, nat_lt}
 use Rattle.bfd_echo.specs.declared.echo.Echo.{Echo}
 
@@ -7,7 +7,7 @@ use Rattle.bfd_echo.specs.declared.echo.Echo.{Echo}
 abbrev pub next_sequence : ℕ → ℕ
 next_sequence s = (s + 1) % 2 ^ 32
 
--- how many numbers on from this one the number s is
+-- how many numbers after this one the number s is
 abbrev pub steps_to : ℕ → ℕ → ℕ
 steps_to from s = (s + (2 ^ 32 - from)) % 2 ^ 32
 

@@ -4,8 +4,8 @@ use Rattle.std.specs.Prelude.{ℕ, ◌+◌, ◌*◌, ◌==◌, Bool, not, ◌&&�
 use Rattle.bfd_num.specs.Numbers.{floor_tick, ceil_tick}
 use Rattle.bfd_echo.specs.declared.echo.Echo.{Echo}
 
--- this side would send echo packets and the peer would take them: neither its interval nor the peer's Required Min Echo
--- RX Interval is 0 (section 6.8.9). In a session over one hop that is Up they are then sent
+-- this side would send echo packets and the peer would accept them: neither its interval nor the peer's Required Min Echo
+-- RX Interval is 0 (section 6.8.9). A session over one hop that is Up then sends them
 abbrev pub is_echo_wanted : ℕ → ℕ → Bool
 is_echo_wanted own peer = not (own == 0) && not (peer == 0)
 
@@ -18,7 +18,7 @@ echo_interval own peer = max own peer
 abbrev pub deadline : Echo → ℕ → ℕ → ℕ
 deadline e interval mult = e.last + mult * interval
 
--- the tick at which the next packet is due: the first one's, or else the one that the interval after the last packet gives
+-- the tick at which the next packet is due: the first packet's, or else the first tick at least the interval after the last packet
 abbrev pub tick_after : ℕ → Option ℕ → ℕ → ℕ
 tick_after first None interval = first
 tick_after first (Some sent) interval = ceil_tick (sent + interval)

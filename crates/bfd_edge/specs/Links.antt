@@ -1,4 +1,4 @@
--- What a link tells, and what each answer leaves of it.
+-- What is observed of a link, and how each answer changes it.
 use Rattle.std.specs.Prelude.{◌≡◌, ◌⊎◌, ℕ, true, false, List, [], ◌∷◌, ◌++◌, Option, Some, None, Result, Ok, Err}
 use Rattle.bfd_packet.specs.declared.arrival.Arrival.{Arrival}
 use Rattle.bfd_packet.specs.declared.arrival.Datagram.{Datagram}
@@ -14,13 +14,13 @@ pub record Traffic : Type 0 where
   pub received : List (ℕ × Arrival)
   pub sent : List Datagram
 
--- what a link tells: the number by which it was opened and its counts always, its traffic where it keeps that
+-- what is observed of a link: always the number by which it was opened and its counts; its traffic if it keeps that
 pub record LinkTold : Type 0 where
   pub number : ℕ
   pub traffic : Option Traffic
   pub counts : LinkCounts
 
--- of a link that was never called
+-- the counts of a link that was never called
 abbrev pub no_counts : LinkCounts
 no_counts = record { receive_faults = 0; send_faults = 0; gave = 0; over = false }
 
@@ -29,7 +29,7 @@ pub record IsNewLink (told : LinkTold) : Type 0 where
   pub counts : told.counts ≡ no_counts
   pub traffic : (told.traffic ≡ None) ⊎ (told.traffic ≡ Some (record { received = []; sent = [] }))
 
--- more was received and sent, where the link keeps that
+-- more was received and sent, if the link keeps its traffic
 abbrev pub more_traffic : List (ℕ × Arrival) → List Datagram → Option Traffic → Option Traffic
 more_traffic received sent None = None
 more_traffic received sent (Some traffic) =
@@ -52,7 +52,7 @@ counts_after_send (Ok done) counts = counts
 counts_after_send (Err fault.Failed) counts = record counts { send_faults = risen counts.send_faults 1 }
 counts_after_send (Err fault.Memory) counts = counts
 
--- what a link tells after an answer to a receive
+-- what is observed of a link after an answer to a receive
 abbrev pub after_receive : Received → LinkTold → LinkTold
 after_receive received told = record told {
   traffic = more_traffic (packets_of received) [] told.traffic;
@@ -64,7 +64,7 @@ abbrev pub sent_by : Datagram → Result (Unit {0}) Fault → List Datagram
 sent_by datagram (Ok done) = datagram ∷ []
 sent_by datagram (Err fault) = []
 
--- what a link tells after an answer to a send
+-- what is observed of a link after an answer to a send
 abbrev pub after_send : Datagram → Result (Unit {0}) Fault → LinkTold → LinkTold
 after_send datagram sent told = record told {
   traffic = more_traffic [] (sent_by datagram sent) told.traffic;

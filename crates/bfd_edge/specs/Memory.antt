@@ -20,9 +20,9 @@ pub record Given : Type 0 where
 
 -- a sink over memory
 pub record Taken : Type 0 where
-  -- the bytes that were taken
+  -- the bytes that were accepted
   pub bytes : List ℕ
-  -- how many bytes it takes at most in one call
+  -- how many bytes it accepts at most in one call
   pub chunk : ℕ
   -- the calls so far
   pub calls : ℕ

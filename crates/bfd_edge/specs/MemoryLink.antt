@@ -29,7 +29,7 @@ pub record HeldLink : Type 0 where
   pub fails : List ℕ
   pub counts : LinkCounts
 
--- what it tells
+-- what is observed of it
 abbrev pub told_of : HeldLink → LinkTold
 told_of link = record {
   number = link.number;
@@ -60,7 +60,7 @@ abbrev pub IsPacket : Option Heard → Type 0
 IsPacket (Some (Got moment arrival)) = ⊤
 IsPacket item = ⊥
 
--- the item that is next, if there is one, and the answer: it runs out of memory at a packet alone
+-- the next item, if there is one, and the answer: only at a packet it may run out of memory
 abbrev pub Hears : Option Heard → Received → Type 0
 Hears next (received.Got moment arrival) = next ≡ Some (Got moment arrival)
 Hears next received.Quiet = next ≡ Some Quiet

@@ -25,7 +25,7 @@ pub record HeldPorts : Type 0 where
   -- how often opening failed
   pub faults : ℕ
 
--- what they tell
+-- what is observed of them
 abbrev pub told_of : HeldPorts → PortsTold
 told_of ports = ports_told memory_link.told_of (place_in ports.places) ports.faults
 
@@ -38,7 +38,7 @@ AllNew (link ∷ links) = IsNewLink (memory_link.told_of link) × AllNew links
 abbrev pub ended_link : HeldLink
 ended_link = record { number = 0; received = []; left = []; sent = []; sends = 0; fails = []; counts = no_counts }
 
--- the link of a number, by the list: one that is Ended from the start where the list lacks it
+-- the link of a number, by the list: one that is Ended from the start if the list lacks it
 abbrev pub link_at : List HeldLink → ℕ → HeldLink
 link_at [] n = ended_link
 link_at (link ∷ links) zero = link

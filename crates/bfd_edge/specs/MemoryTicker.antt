@@ -23,7 +23,7 @@ pub record HeldTicker : Type 0 where
   -- whether it answered Ended
   pub over : Bool
 
--- what it tells
+-- what is observed of it
 abbrev pub told_of : HeldTicker → TickerTold
 told_of ticker = record {
   ticks = Some (record { given = ticker.given; left = ticker.left });

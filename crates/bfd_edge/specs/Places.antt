@@ -5,7 +5,7 @@ use Rattle.bfd_edge.specs.declared.places.Place.TheVariants.{Waiting, Opened, Sh
 use Rattle.bfd_edge.specs.Links.{LinkTold}
 use Rattle.bfd_edge.specs.Ports.{PortsTold}
 
--- the place of a number in a list of places: behind its end all are waiting
+-- the place of a number in a list of places; numbers after its end are waiting
 abbrev pub place_in : {T : Type 0} → List (Place T) → ℕ → Place T
 place_in [] n = Waiting
 place_in (place ∷ places) zero = place
@@ -27,13 +27,13 @@ is_shut Waiting = false
 is_shut Opened = false
 is_shut (Shut kept) = true
 
--- what the link of the number told when it was shut, by what was kept of it
+-- what was observed of the link of the number when it was shut, by what was kept of it
 abbrev pub told_in : {T : Type 0} → (T → LinkTold) → Place T → Option LinkTold
 told_in told Waiting = None
 told_in told Opened = None
 told_in told (Shut kept) = Some (told kept)
 
--- what ports with these places tell
+-- what is observed of ports with these places
 abbrev pub ports_told : {T : Type 0} → (T → LinkTold) → (ℕ → Place T) → ℕ → PortsTold
 ports_told told places faults = record {
   opened = λ n. is_opened (places n);

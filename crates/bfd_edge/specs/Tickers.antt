@@ -1,4 +1,4 @@
--- What a ticker tells, and what each answer leaves of it.
+-- What is observed of a ticker, and how each answer changes it.
 use Rattle.std.specs.Prelude.{◌≡◌, ℕ, ⊤, Bool, true, List, [], ◌∷◌, ◌++◌, drop, Option, Some, None}
 use Rattle.bfd_edge.specs.declared.ticker.Next.{Next}
 use Rattle.bfd_edge.specs.declared.ticker.Next.TheVariants.{Got, Ended, Failed}
@@ -9,7 +9,7 @@ pub record Ticks : Type 0 where
   pub given : List ℕ
   pub left : List ℕ
 
--- what a ticker tells: its ticks where it keeps them, the rest always
+-- what is observed of a ticker: its ticks if it keeps them, and always the rest
 pub record TickerTold : Type 0 where
   pub ticks : Option Ticks
   -- how often it failed
@@ -19,18 +19,18 @@ pub record TickerTold : Type 0 where
   -- whether it answered Ended
   pub over : Bool
 
--- one tick more was given, where the ticker keeps them
+-- one more tick was given, if the ticker keeps them
 abbrev pub one_given : ℕ → Option Ticks → Option Ticks
 one_given tick None = None
 one_given tick (Some ticks) = Some (record { given = ticks.given ++ tick ∷ []; left = drop 1 ticks.left })
 
--- what a ticker tells after an answer
+-- what is observed of a ticker after an answer
 abbrev pub after_next : Next → TickerTold → TickerTold
 after_next (Got tick) told = record told { ticks = one_given tick told.ticks; gave = risen told.gave 1 }
 after_next Ended told = record told { over = true }
 after_next Failed told = record told { faults = risen told.faults 1 }
 
--- a tick is the first of those that are left, and the end comes only where none is left
+-- a tick is the first of those that are left, and the end comes only when none is left
 abbrev pub IsInOrder : Next → Option Ticks → Type 0
 IsInOrder next None = ⊤
 IsInOrder (Got tick) (Some ticks) = ticks.left ≡ tick ∷ drop 1 ticks.left

@@ -1,5 +1,5 @@
--- What a call of an engine comes to, and what it leaves. A caller's pass is spoken of by total functions of the shard's
--- number: where it has no pass of a shard they are empty or 0.
+-- What a call of an engine resolves to, and what it changes. The functions on a caller's pass are total in the shard's
+-- number: if the caller has no pass of a shard, they are empty or 0.
 use Rattle.std.specs.Prelude.{ℕ, ◌≡◌, ◌≢◌, ◌≤◌, ◌<◌, ◌+◌, ◌/◌, ◌%◌, ◌++◌, List, [], ◌∷◌, length, slice_get, Option, None, Some, Result, Ok}
 use Rattle.std.specs.Prelude.{Err}
 use Rattle.bfd_packet.specs.declared.arrival.Arrival.{Arrival}
@@ -96,8 +96,8 @@ pub record TookTurn (k l : Knows) (shard : ℕ) : Type 0 where
   pub later : met_word k shard < met_word l shard
   pub left : met_word l shard ≤ last_word
 
--- why a turn added no entry: no memory, with a journal below its limit; the shard's journal that was seen is at its limit; or the
--- lock's last word was met
+-- why a turn added no entry: out of memory, with a journal below its limit; the shard's journal that was seen is at its limit; or
+-- the lock's last word was met
 abbrev pub IsCause : EngineFault → Shards → ℕ → Knows → Type 0
 IsCause Memory engine shard l = length (seen_at l shard) < engine.limit
 IsCause (Full at n) engine shard l = (at ≡ shard) × (n ≡ engine.limit) × (length (seen_at l shard) ≡ n)
@@ -115,7 +115,7 @@ fault_of shard NoMemory = Memory
 fault_of shard (IsFull n) = Full shard n
 fault_of shard (IsSpent word) = Spent shard word
 
--- what a call comes to: a turn of a shard with an event; an answer with no turn, and with these outputs
+-- what a call resolves to: a turn of a shard with an event; or an answer without a turn, and these outputs
 pub data Act : Type 0 where
   Turns : (shard : ℕ) (event : ShardEvent) → Act
   Rests : (outs : List Out) (answer : Answer) → Act
@@ -130,7 +130,7 @@ abbrev pub reflect_act : Result Datagram Test → Arrival → Act
 reflect_act (Ok datagram) arrival = Rests (Sent (fields_of arrival.payload).your datagram ∷ []) Handled
 reflect_act (Err test) arrival = Rests [] (Dropped test)
 
--- what an arrival comes to
+-- what an arrival resolves to
 abbrev pub coming_act : Shards → ℕ → Arrival → Destination → Act
 coming_act engine moment arrival (Discarded test) = Rests [] (Dropped test)
 coming_act engine moment arrival (Reflected place) = reflect_act (reflect engine.pool arrival) arrival
@@ -148,8 +148,8 @@ ask_act engine moment event None = Rests [] (Refused UnknownSession)
 abbrev pub asking_by_discr : Shards → ℕ → ℕ → Event → Act
 asking_by_discr engine moment discr event = ask_act engine moment event (place_of discr engine.configs)
 
--- one turn, with its entry: it comes last in what the pass has seen, after others' entries, with which the journal was below its limit,
--- and the outputs and the answer are those of that entry after the entries before it
+-- one turn, with its entry. The entry comes last in what the pass has seen, after others' entries, with which the journal was below
+-- its limit. The outputs and the answer are those of that entry after the entries before it
 pub record IsCall (engine : Shards) (shard : ℕ) (event : ShardEvent) (k l : Knows) (outs outs2 : List Out) (answer : Answer) : Type 0 where
   pub between : List Entry
   pub turned : Turned k l shard between (entry_of k.0 event ∷ [])

@@ -7,8 +7,8 @@ use Rattle.bfd_shard.specs.Dealing.{share}
 use Rattle.bfd_engine.specs.declared.locked.Base.{Base}
 use Rattle.bfd_engine.specs.Turned.{OfShard}
 
--- an engine: its locks by shard, its sessions' configurations and its reflectors by ascending discriminator, and how many
--- entries each shard's journal takes
+-- an engine: its locks by shard, its sessions' configurations and its reflectors by ascending discriminator, and the limit
+-- on the entries of each shard's journal
 pub record Shards : Type 0 where
   pub locks : List TableId
   pub configs : List SessionConfig
@@ -30,7 +30,7 @@ pub record IsEngine (engine : Shards) (sizes : List ℕ) : Type 0 where
   pub small : length engine.configs ≤ 65536
   pub sizes_are : (shard : ℕ) → shard < length engine.locks → slice_get sizes shard ≡ Some (length (configs_at engine shard))
 
--- what a pass knows of a shard, and the lock that it is of; none while it holds the shard's turn
+-- what a pass knows of a shard, and its lock there; none while it holds the shard's turn
 abbrev pub Held : Type 0
 Held = Option (TableId × OfShard)
 

@@ -20,7 +20,7 @@ pub record IsHeld (engine : Shards) (pass : Knows) (hold : Holding) : Type 0 whe
   pub callers : IsCallers pass.0 pass.2 hold.2
   pub out : slice_get pass.1 hold.0 ≡ Some None
 
--- a pass that knew k took the turn of a shard: it has seen what it had, and then entries of other callers alone
+-- a pass that knew k took the turn of a shard: it has seen what it had, and then only entries of other callers
 pub record HasTaken (engine : Shards) (shard : ℕ) (k l : Knows) (hold : Holding) : Type 0 where
   pub between : List Entry
   pub shard_is : hold.0 ≡ shard
@@ -33,7 +33,7 @@ pub record HasTaken (engine : Shards) (shard : ℕ) (k l : Knows) (hold : Holdin
   pub made : hold.2.made ≡ made_at k shard
   pub kept : hold.2.joined ≡ kept_at k shard
 
--- a pass has met a word of a shard's lock, and all else of it is as before
+-- a pass has met a word of a shard's lock, and otherwise is as before
 pub record HasMet (word shard : ℕ) (k l : Knows) : Type 0 where
   pub number : l.0 ≡ k.0
   pub used : l.2 ≡ k.2

@@ -40,23 +40,23 @@ opened_base limit configs = record { configs = configs; limit = limit }
 abbrev pub IsNewShard : ℕ → List SessionConfig → TableId → TableId × OfShard → Type 0
 IsNewShard limit configs lock pass = pass ≡ (lock, opened_pass (opened_base limit configs) 0)
 
--- sessions that may make a shard
+-- sessions of which a shard may be built
 pub record MayOpen (configs : List SessionConfig) : Type 0 where
   pub few : length configs ≤ 65536
   pub fit : AreFit configs
 
--- a new shard of these sessions: all stand at the start, and the journal takes no entry
+-- a new shard of these sessions: all are at the start, and the journal accepts no entry
 pub record IsNewState (configs : List SessionConfig) (state : Shard) : Type 0 where
   pub sessions : state.sessions ≡ map started configs
   pub journal : state.journal ≡ []
   pub limit : state.limit ≡ 0
 
--- new shards, one for each share of the sessions: all sessions stand at the start, and no journal takes an entry
+-- new shards, one for each share of the sessions: all sessions are at the start, and no journal accepts an entry
 pub record AreNewStates (n : ℕ) (configs : List SessionConfig) (states : List Shard) : Type 0 where
   pub long : length states ≡ n
   pub each : (r : ℕ) (d : Shard) → r < n → IsNewState (share n r configs) (slice_index_or states r d)
 
--- a shard that has seen nothing, whose journal takes no more entries than this
+-- a shard that has seen nothing, whose journal accepts no more entries than this
 abbrev pub MayLock : ℕ → Shard → Type 0
 MayLock limit state = (state.journal ≡ []) × (state.limit ≤ limit)
 
@@ -76,7 +76,7 @@ pub record AreOpened (limit : ℕ) (parts : List (List SessionConfig)) (locks : 
   pub each : (k : ℕ) (configs : List SessionConfig) → slice_get parts k ≡ Some configs
       → IsOpenedShard limit configs (slice_get locks k) (slice_get passes k) (slice_get sizes k)
 
--- a shard that was made of these sessions: its lock, the pass of its caller 0, and how many they are
+-- a shard that was built from these sessions: its lock, the pass of its caller 0, and how many sessions there are
 abbrev pub IsMade : ℕ → List SessionConfig → TableId × (TableId × OfShard) × ℕ → Type 0
 IsMade limit configs made = IsNewShard limit configs made.0 made.1 × (made.2 ≡ length configs)
 

@@ -1,4 +1,4 @@
--- What the calls that make, take in and end passes leave, shard by shard.
+-- How the calls that make, join and end passes change them, shard by shard.
 use Rattle.std.specs.Prelude.{ℕ, ◌≡◌, ◌≢◌, ◌≤◌, ◌<◌, ◌+◌, ◌*◌, ◌++◌, true, false, List, [], ◌∷◌, length, slice_get, Option, Some}
 use Rattle.bfd_turn.specs.Lists.{Begins, longer, calls, has, numbers_of}
 use Rattle.bfd_turn.specs.Plays.{AllKept}
@@ -9,7 +9,7 @@ use Rattle.bfd_shard.specs.Shard.{Shard}
 use Rattle.bfd_engine.specs.Engines.{Shards, Held, Knows, configs_at}
 use Rattle.bfd_engine.specs.Calls.{seen_at, met_word, taken_at, made_at, kept_at, mine}
 
--- on a shard caller 0 knew k, and knows l once it has made a pass, which knows o
+-- on a shard caller 0 knew k, and knows l after it has made a pass, which knows o
 pub record Parted (k l o : Knows) (shard : ℕ) : Type 0 where
   pub seen : seen_at l shard ≡ seen_at k shard
   pub word : met_word l shard ≡ met_word k shard
@@ -21,7 +21,7 @@ pub record Parted (k l o : Knows) (shard : ℕ) : Type 0 where
   pub taken_new : taken_at o shard ≡ 0
   pub fresh : calls by o.0 (seen_at k shard) ≡ []
 
--- what a shard's pass is, and the one that it made with the number
+-- a shard's pass before and after it made a pass with this number, and that new pass
 pub record IsCut (number : ℕ) (before after new : Option Held) : Type 0 where
   pub pass : TableId × OfShard
   pub before_is : before ≡ Some (Some pass)
@@ -40,8 +40,8 @@ pub record CutsAt (number at : ℕ) (before after : List Held) (new : TableId ×
   pub cut : IsCut number (slice_get before at) (slice_get after at) (Some (Some new))
   pub left : (k : ℕ) → k ≢ at → slice_get after k ≡ slice_get before k
 
--- on a shard caller 0 knew k, and knows l once it has taken in a pass that knew o: it has seen the longer of the two lists, of
--- which each is a beginning, with no further call of its own, and keeps the other's number and calls
+-- on a shard caller 0 knew k, and knows l after it has joined a pass that knew o. It has seen the longer of the two lists, of
+-- which each is a prefix. It made no further call of its own, and keeps the other's number and calls
 pub record Joined (k o l : Knows) (shard : ℕ) : Type 0 where
   pub seen : seen_at l shard ≡ longer (seen_at k shard) (seen_at o shard)
   pub first : Begins (seen_at k shard) (seen_at l shard)
@@ -53,7 +53,7 @@ pub record Joined (k o l : Knows) (shard : ℕ) : Type 0 where
   pub taken : taken_at l shard ≡ taken_at k shard + taken_at o shard
   pub made : made_at l shard ≡ made_at k shard
 
--- what a shard's two passes are, of which the second is this caller's, and the first after it took in the second
+-- a shard's two passes, of which the second is this caller's, and the first after it joined the second
 pub record IsGlued (number : ℕ) (before theirs after : Option Held) : Type 0 where
   pub pass : TableId × OfShard
   pub other : TableId × OfShard
@@ -85,7 +85,7 @@ abbrev pub EachJoined : Shards → Knows → Type 0
 EachJoined engine pass = (shard n : ℕ) → shard < length engine.locks → has n (made_at pass shard) ≡ true
     → has n (numbers_of (kept_at pass shard)) ≡ true
 
--- a closed shard: its journal is the one history that the pass has seen; each joined pass has the calls there that are kept of
+-- a closed shard: its journal is the one history that the pass has seen. Each joined pass has the calls there that are kept of
 -- it, and a number that was never made has none
 pub record IsClosed (engine : Shards) (pass : Knows) (number : ℕ) (shard : Shard) : Type 0 where
   pub journal : shard.journal ≡ seen_at pass number

@@ -1,4 +1,4 @@
--- What a look at a shard's history leaves.
+-- What reading a shard's history changes.
 use Rattle.std.specs.Prelude.{ℕ, ◌≡◌, List, []}
 use Rattle.std.specs.List.{AllByRecursion}
 use Rattle.bfd_session.specs.declared.event.SessionConfig.{SessionConfig}
@@ -17,12 +17,12 @@ use Rattle.bfd_engine.specs.Calls.{met_word, Turned}
 abbrev pub AreGiven : List SessionConfig → List Entry → Type 0
 AreGiven configs entries = AllByRecursion (λ entry. CanHappen configs entry.event) entries
 
--- k became l by a turn that added no entry: it has seen what it had, and then entries of other callers alone
+-- k became l by a turn that added no entry: it has seen what it had, and then only entries of other callers
 pub record HasRead (k l : Knows) (shard : ℕ) : Type 0 where
   pub between : List Entry
   pub turned : Turned k l shard between []
 
--- why a shard's history wasn't read: no memory, or the lock's last word was met; a full journal can be read
+-- why a shard's history wasn't read: out of memory, or the lock's last word was met; a full journal can be read
 abbrev pub IsHistoryUnread : TurnFault → OfShard → Type 0
 IsHistoryUnread NoMemory q = Unit {0}
 IsHistoryUnread (IsFull n) q = ⊥

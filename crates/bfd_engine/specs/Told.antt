@@ -1,4 +1,4 @@
--- How the faults of an engine are told.
+-- The texts that report the faults of an engine.
 use Rattle.std.specs.Prelude.{ℕ, List, ◌++◌, codes}
 use Rattle.std.specs.Fmt.{decimal}
 use Rattle.bfd_demux.specs.Told as rows

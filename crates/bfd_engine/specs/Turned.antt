@@ -34,7 +34,7 @@ abbrev pub configs_in : Option Base → List SessionConfig
 configs_in None = []
 configs_in (Some base) = base.configs
 
--- how many entries its journal takes
+-- the limit on the entries of its journal
 abbrev pub limit_in : Option Base → ℕ
 limit_in None = 0
 limit_in (Some base) = base.limit
@@ -48,8 +48,8 @@ room_in configs (Tick t) = 5 * length configs
 abbrev pub given_after : List SessionConfig → List Entry → ShardEvent → Outcome
 given_after configs before event = outcome_of (last_tick (events_of before)) event (runs (events_of before) configs)
 
--- what no turn of the shard changes in what the pass p knows, which is q after it; the word that it has met doesn't fall, and
--- it has given back one turn at most
+-- what stays the same when the pass p becomes q by a turn of the shard; the word that it has met doesn't fall, and it has given
+-- back one turn at most
 pub record IsSame (p q : OfShard) : Type 0 where
   pub number : q.number ≡ p.number
   pub base_is : q.base ≡ p.base
@@ -64,8 +64,8 @@ pub record HadTurn (p q : OfShard) : Type 0 where
   pub later : p.word < q.word
   pub left : q.word ≤ last_word
 
--- q has seen what p had, then entries of other callers alone, and last this very event, of its own, for which the journal was below
--- its limit; the outputs that were appended and the answer are those of that last entry after the entries before it
+-- q has seen what p had, then only entries of other callers, and last its own entry of this event. Before that entry the journal was
+-- below its limit. The outputs that were appended and the answer are those of that entry after the entries before it
 pub record HasTurned (p : OfShard) (event : ShardEvent) (q : OfShard) (outs outs2 : List Out) (answer : Answer) : Type 0 where
   pub between : List Entry
   pub others : calls by p.number between ≡ []
@@ -75,8 +75,8 @@ pub record HasTurned (p : OfShard) (event : ShardEvent) (q : OfShard) (outs outs
   pub told : outs2 ≡ outs ++ (given_after (configs_in p.base) (p.seen ++ between) event).items
   pub answered : answer ≡ (given_after (configs_in p.base) (p.seen ++ between) event).answer
 
--- what a tick did that ends all that was seen: the places of the sessions that forgot by it that a packet was heard are exactly
--- those that it expires (RFC 5880 section 6.8.4), and nothing is left that is due by the last tick
+-- what a tick did that is the last entry seen: exactly the sessions that it expires forgot that a packet was heard (RFC 5880
+-- section 6.8.4), and nothing is left that is due by the last tick
 pub record HasExpired (configs : List SessionConfig) (caller t : ℕ) (seen : List Entry) : Type 0 where
   pub before : List Entry
   pub last : seen ≡ before ++ entry_of caller (Tick t) ∷ []
@@ -88,14 +88,14 @@ abbrev pub IsTimely : List SessionConfig → ℕ → ShardEvent → List Entry �
 IsTimely configs caller (Own place moment event) seen = Unit {0}
 IsTimely configs caller (Tick t) seen = HasExpired configs caller t seen
 
--- q has seen what p had, and then entries of other callers alone
+-- q has seen what p had, and then only entries of other callers
 pub record HasLooked (p q : OfShard) : Type 0 where
   pub between : List Entry
   pub others : calls by p.number between ≡ []
   pub seen : q.seen ≡ p.seen ++ between
 
--- why a turn added no entry: no memory, with a journal below its limit; a journal that was seen to be at its limit; or the last
--- word was met
+-- why a turn added no entry: out of memory, with a journal below its limit; the journal that was seen is at its limit; or the
+-- lock's last word was met
 abbrev pub IsTurnCause : TurnFault → OfShard → Type 0
 IsTurnCause Memory q = length q.seen < limit_in q.base
 IsTurnCause (Full n) q = (length q.seen ≡ n) × (n ≡ limit_in q.base)

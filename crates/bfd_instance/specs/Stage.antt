@@ -15,7 +15,7 @@ pub record Stage : Type 0 where
   pub world : World
   pub items : List Out
 
--- sessions and reflectors that make a table, as those of a script do
+-- sessions and reflectors that form a table, as those of a script do
 pub record IsTable (sessions : List SessionConfig) (reflectors : List Reflector) : Type 0 where
   pub configs : AreConfigs sessions
   pub pool : ArePool reflectors

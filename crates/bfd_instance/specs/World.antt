@@ -1,4 +1,4 @@
--- What the events of a replay give, one after another.
+-- The outcomes of the events of a replay, one after another.
 use Rattle.std.specs.Prelude.{ℕ, ◌==◌, Bool, is_some, not, max, Option, None, Some, Result, Ok, Err, List, [], ◌∷◌, map, length, sum_by}
 use Rattle.std.specs.Prelude.{slice_get, slice_set}
 use Rattle.std.specs.List.{filter, flat_map, insert, list_any, remove}
@@ -31,7 +31,7 @@ pub record World : Type 0 where
   pub pool : List Reflector
   pub last : ℕ
 
--- an event: the world after it, and what it gave
+-- an event: the world after it, and its outcome
 pub record Turn : Type 0 where
   pub world : World
   pub outcome : Outcome
@@ -49,7 +49,7 @@ turned sessions pool last items answer = turn_giving (world_of sessions pool las
 abbrev pub opened : List SessionConfig → List Reflector → World
 opened configs pool = world_of (map started configs) pool 0
 
--- the world with a session of this configuration, which stands where its discriminator has it and starts at the last tick
+-- the world with one more session, of this configuration: it stands in the order of discriminators and starts at the last tick
 abbrev pub world_with : SessionConfig → World → World
 world_with config w = record w { sessions = insert w.sessions (place_for (discr_of config) (configs_of w.sessions)) (started config) }
 
@@ -76,7 +76,7 @@ knows_session discr w = is_some (place_of discr (configs_of w.sessions))
 abbrev pub knows_reflector : ℕ → World → Bool
 knows_reflector discr w = list_any (λ reflector. reflector.discr == discr) w.pool
 
--- what keeps a session or a reflector from being added
+-- why a session or a reflector can't be added
 abbrev pub session_fault : SessionConfig → World → Option AddFault
 session_fault config w = add_fault (row_of config) (table_of (configs_of w.sessions) w.pool)
 
@@ -113,7 +113,7 @@ reflected reflector (Err test) w = rests (Dropped test) w
 reflected None (Ok datagram) w = rests Handled w
 reflected (Some reflector) (Ok datagram) w = turn_giving w (Sent reflector.discr datagram ∷ []) Handled
 
--- what a line that comes to this does
+-- what a line that resolves to this does
 abbrev pub carried_out : Doing → World → Turn
 carried_out (Rests answer) w = rests answer w
 carried_out (Reflects place arrival) w = reflected (slice_get w.pool place) (reflect w.pool arrival) w
@@ -124,7 +124,7 @@ carried_out (Passes t) w = ticks t w
 abbrev pub happens : Line → World → Turn
 happens line w = carried_out (doing (configs_of w.sessions) w.pool line) w
 
--- the place of the session to which an event came; none where it came to no session, to a reflector, or as a tick to all
+-- the place of the session to which an event came; none if it came to no session, to a reflector, or as a tick to all
 abbrev pub reached : Doing → Option ℕ
 reached (Rests answer) = None
 reached (Reflects place arrival) = None
@@ -148,7 +148,7 @@ discr_of_place (Some place) w = session_discr (slice_get w.sessions place)
 abbrev pub discr_reached : Line → World → ℕ
 discr_reached line w = discr_of_place (place_reached line w) (happens line w).world
 
--- what the lines give, one after another
+-- the outcomes of the lines, one after another
 abbrev pub outcomes : List Line → World → List Outcome
 outcomes [] w = []
 outcomes (event ∷ events) w = (happens event w).outcome ∷ outcomes events (happens event w).world
@@ -158,7 +158,7 @@ abbrev pub world_after : List Line → World → World
 world_after [] w = w
 world_after (event ∷ events) w = world_after events (happens event w).world
 
--- what the events of a script give
+-- the outcomes of the events of a script
 abbrev pub world : Lists → List Outcome
 world script = outcomes script.events (opened script.configs script.pool)
 
@@ -166,7 +166,7 @@ world script = outcomes script.events (opened script.configs script.pool)
 abbrev pub world_left : Lists → World
 world_left script = world_after script.events (opened script.configs script.pool)
 
--- how many events there are, how many packets are sent and how many are dropped in them, and how many sessions are Up at the end
+-- how many events there are, how many packets are sent and dropped in them, and how many sessions are Up at the end
 pub record Totals : Type 0 where
   pub events : ℕ
   pub txs : ℕ

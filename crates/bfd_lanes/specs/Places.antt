@@ -10,7 +10,7 @@ never = 18446744073709551615
 abbrev pub due_of : ℕ → Option ℕ
 due_of d = if nat_eq d never then None else Some d
 
--- the places of the elements that pass the test p, ascending, where the first element has the place n
+-- the places of the elements that pass the test p, ascending; the first element has the place n
 abbrev pub places : {A : Type 0} → (A → Bool) → ℕ → List A → List ℕ
 places p n [] = []
 places p n (x ∷ xs) = if p x then n ∷ places p (n + 1) xs else places p (n + 1) xs
@@ -24,11 +24,11 @@ abbrev pub least : List (Option ℕ) → Option ℕ
 least [] = None
 least (d ∷ ds) = sooner d (least ds)
 
--- a due tick once the tick t has taken it
+-- a due tick after the tick t: none, if it has come
 abbrev pub without : ℕ → Option ℕ → Option ℕ
 without t d = if has_come t d then None else d
 
--- the lowest number, where never is above all that count
+-- the lowest number; never is above each that stands for a due tick
 abbrev pub lowest : List ℕ → ℕ
 lowest [] = never
 lowest (d ∷ ds) = min d (lowest ds)

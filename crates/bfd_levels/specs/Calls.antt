@@ -1,4 +1,4 @@
--- Lists of calls on a wheel of levels, and the steps that they may take.
+-- Lists of calls on a wheel of levels, and the steps that they may need.
 use Rattle.std.specs.Prelude.{ℕ, ◌+◌, ◌-◌, ◌*◌, ◌<◌, ◌≤◌, max, List, [], ◌∷◌, map, None, Some, slice_set}
 use Rattle.bfd_lanes.specs.Places.{without}
 use Rattle.bfd_levels.specs.Height.{Clocked, potential_of}
@@ -15,12 +15,12 @@ wheel_after (Set id due) w = record { clock = w.clock; dues = slice_set w.dues i
 wheel_after (Clear id) w = record { clock = w.clock; dues = slice_set w.dues id None }
 wheel_after (Advance t) w = record { clock = max w.clock t; dues = map (without t) w.dues }
 
--- a call with the steps that it took
+-- a call with its number of steps
 pub record Made : Type 0 where
   pub call : WheelCall
   pub steps : ℕ
 
--- the steps are no more than the contract of the call lets it take on the wheel
+-- the steps are no more than the contract of the call allows on the wheel
 abbrev pub KeepsSteps : Clocked → ℕ → WheelCall → Type 0
 KeepsSteps w steps (Set id due) = steps ≤ 2
 KeepsSteps w steps (Clear id) = steps ≤ 1
@@ -43,7 +43,7 @@ abbrev pub steps_of : List Made → ℕ
 steps_of [] = 0
 steps_of (m ∷ ms) = m.steps + steps_of ms
 
--- what a call may take in the long run, but for the ticks that the clock goes forward
+-- the steps that a call may need in the long run, apart from the ticks that the clock goes forward
 abbrev pub call_share : WheelCall → ℕ
 call_share (Set id due) = 11
 call_share (Clear id) = 1

@@ -1,8 +1,8 @@
 -- How far ahead a due tick lies, in digits of base 256, and the potential that this gives.
 use Rattle.std.specs.Prelude.{ℕ, ◌+◌, ◌*◌, ◌/◌, ◌^◌, List, [], ◌∷◌, Option, None, Some, if◌then◌else◌, nat_le, nat_eq}
 
--- 0 where the due tick d is at most the tick n; else the place, from 0, of the highest digit in base 256 in which
--- they differ, and 4 where that place is 4 or more
+-- 0 if the due tick d is at most the tick n; else the place, from 0, of the highest digit in base 256 in which
+-- they differ, or 4 if that place is 4 or more
 abbrev pub height : ℕ → ℕ → ℕ
 height d n =
     if nat_le d n then 0
@@ -12,7 +12,7 @@ height d n =
     else if nat_eq (d / 256 ^ 4) (n / 256 ^ 4) then 3
     else 4
 
--- what an optional due tick weighs at the tick n: two a level that it may still go down, and one for taking it
+-- the weight of an optional due tick at the tick n: two for each level that it may still go down, and one for taking it
 abbrev pub weight : ℕ → Option ℕ → ℕ
 weight n None = 0
 weight n (Some d) = 2 * height d n + 1

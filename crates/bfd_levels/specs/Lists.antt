@@ -30,7 +30,7 @@ midway n before tick zero due = place n before due
 midway n before tick (suc k) due =
     if nat_eq (midway n before tick k due) (slot n tick k) then place n tick due else midway n before tick k due
 
--- the same for the ids, by their due ticks: between two ticks, on the way, and in a jump that has moved the ids below id
+-- the same for the ids, by their due ticks: between two ticks, during a tick, and in a jump that has moved the ids below id
 abbrev pub at_tick : ℕ → ℕ → List ℕ → ℕ → ℕ
 at_tick n now dues = λ j. place n now (due_in dues j)
 
@@ -40,7 +40,7 @@ at_midway n before tick k dues = λ j. midway n before tick k (due_in dues j)
 abbrev pub at_jump : ℕ → ℕ → ℕ → ℕ → List ℕ → ℕ → ℕ
 at_jump n now t id dues = λ j. if nat_lt j id then place n t (due_in dues j) else place n now (due_in dues j)
 
--- what an id weighs: nothing without a due tick, and else by the level of its list
+-- the weight of an id: nothing without a due tick, and else by the level of its list
 unfoldable pub load : ℕ → (ℕ → ℕ) → List ℕ → ℕ → ℕ
 load n at dues j = if nat_eq (due_in dues j) never then 0 else 2 * level_of n (at j) + 1
 
@@ -49,7 +49,7 @@ unfoldable pub total : (ℕ → ℕ) → ℕ → ℕ
 total f zero = 0
 total f (suc n) = f n + total f n
 
--- what all ids weigh
+-- the weight of all ids
 abbrev pub loads : ℕ → (ℕ → ℕ) → List ℕ → ℕ
 loads n at dues = total (load n at dues) n
 

@@ -8,7 +8,7 @@ use Rattle.bfd_wheel.specs.Wheel.{due_in, next_in, prev_in}
 unfoldable pub head_for : ℕ → (ℕ → ℕ) → ℕ → ℕ
 head_for n at j = if nat_lt j n then at j else j
 
--- each of the n ids that has a due tick stands on the one list that `at` names, behind one of m heads, and an id that
+-- each of the n ids that has a due tick stands on the one list that `at` names, behind one of m heads. An id that
 -- has none stands on no list
 pub record IsPlaced (n m : ℕ) (at : ℕ → ℕ) (dues : List ℕ) (nodes : List Node) : Type 0 where
   pub few : n ≤ 65536

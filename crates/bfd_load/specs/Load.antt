@@ -1,4 +1,4 @@
--- A script made from three numbers: how many sessions and ticks there are, and a seed.
+-- A script built from three numbers: how many sessions and ticks there are, and a seed.
 use Rattle.std.specs.Prelude.{ℕ, ◌+◌, ◌-◌, ◌*◌, ◌%◌, ◌^◌, ◌==◌, ◌&&◌, Bool, true, false, not, nat_le, None, List, [], ◌∷◌, ◌++◌, map}
 use Rattle.std.specs.Prelude.{length, if◌then◌else◌}
 use Rattle.std.specs.List.{filter, flat_map, range_with_len}
@@ -16,7 +16,7 @@ use Rattle.bfd_script.specs.declared.line.entries.Line.{Line}
 use Rattle.bfd_script.specs.declared.line.entries.Line.TheVariants.{Rx, Tick}
 use Rattle.bfd_script.specs.Reading.{Lists}
 
--- every session hears a packet once in so many ticks, and session i at the ticks that leave the remainder that i leaves
+-- every session hears a packet once in so many ticks: session i at the ticks with the same remainder as i
 abbrev pub period : ℕ
 period = 300
 
@@ -45,7 +45,7 @@ config seed i = Pair (record {
   keys = None;
 })
 
--- how many earlier ticks, from 1 on, leave the remainder that this one leaves: the packets before those of this tick
+-- how many earlier ticks, from 1 on, have the same remainder as this one: the packets before those of this tick
 unfoldable pub earlier : ℕ → ℕ
 earlier t = length (filter (λ u. u % period == t % period) (range_with_len 1 (t - 1)))
 
@@ -69,7 +69,7 @@ control i p = record {
   min_echo = 0;
 }
 
--- it comes in from the peer with TTL 255
+-- it arrives from the peer with TTL 255
 abbrev pub arrival : ℕ → ℕ → Arrival
 arrival i p = record {
   port = ports.Single;

@@ -13,7 +13,7 @@ use Rattle.bfd_mp.specs.declared.config.HeadConfig.{HeadConfig}
 use Rattle.bfd_mp.specs.declared.config.TailConfig.{TailConfig}
 use Rattle.bfd_mp.specs.Counting.{counted}
 
--- a head knows four commands, a tail the first two
+-- a head knows four commands, a tail Disable and Enable alone
 abbrev pub is_wrong_for_head : Cmd → Bool
 is_wrong_for_head Disable = false
 is_wrong_for_head Enable = false
@@ -38,7 +38,7 @@ is_wrong_state v Disable = is_admin_down v.state
 is_wrong_state v Enable = not (is_admin_down v.state)
 is_wrong_state v _ = false
 
--- while packets with P are still to be sent the interval can't be set again, to the same value neither
+-- while packets with P are still to be sent, the interval can't be set again, not even to the same value
 abbrev pub is_poll_busy : Vars → Cmd → Bool
 is_poll_busy v (Tx n) = not (v.left == 0)
 is_poll_busy v _ = false
@@ -63,8 +63,8 @@ head_refusal v cmd = find (is_head_refused_by v cmd) (WrongKind ∷ OutOfRange �
 abbrev pub tail_refusal : Vars → Cmd → Option Refusal
 tail_refusal v cmd = find (is_tail_refused_by v cmd) (WrongKind ∷ WrongState ∷ [])
 
--- a changed interval (RFC 8562 section 5.10): in Up the next packets carry P, as many as Detect Mult, and the lesser of the new interval
--- and the one in use is used until they are sent; in AdminDown it is used immediately. The same number is no change
+-- a changed interval (RFC 8562 section 5.10): in Up the next packets carry P, as many as Detect Mult. Until they are sent, the lesser of
+-- the new interval and the one in use is used. In AdminDown the new interval is used immediately. The same number is no change
 abbrev pub interval_done : ℕ → Vars → Vars
 interval_done n v =
     if n == v.tx then v
@@ -72,7 +72,7 @@ interval_done n v =
     then record (counted v.mult v) { tx = n; used_tx = min v.used_tx n }
     else record v { tx = n; used_tx = n })
 
--- what each command makes of a head's variables (RFC 8562 section 5.9, RFC 5880 sections 6.8.16, 6.8.11 and 6.8.12)
+-- a head's variables after each command (RFC 8562 section 5.9, RFC 5880 sections 6.8.16, 6.8.11 and 6.8.12)
 abbrev pub head_done : Cmd → Vars → Vars
 head_done Disable v = counted 0 (enters AdminDown 7 v)
 head_done Enable v = enters Up v.diag v
@@ -80,7 +80,7 @@ head_done (Tx n) v = interval_done n v
 head_done (Mult n) v = record v { mult = n }
 head_done _ v = v
 
--- and of a tail's (RFC 5880 section 6.8.16)
+-- and a tail's (RFC 5880 section 6.8.16)
 abbrev pub tail_done : Cmd → Vars → Vars
 tail_done Disable v = enters AdminDown 7 v
 tail_done Enable v = enters Down v.diag v

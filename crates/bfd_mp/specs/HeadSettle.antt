@@ -13,12 +13,12 @@ use Rattle.bfd_mp.specs.Transmit.{transmits}
 abbrev pub one_fewer : Vars → Vars
 one_fewer v = if v.left == 0 then v else counted (v.left - 1) v
 
--- a periodic packet, with P while such packets are to be sent: it moves the base, and tells the present state and diagnostic
+-- a periodic packet, with P while such packets are to be sent: it moves the base, and carries the present state and diagnostic
 unfoldable pub periodic_packet : HeadConfig → ℕ → Course → Course
 periodic_packet c eff s =
     let sent : Course = transmits c (not (s.vars.left == 0)) s in
     record sent { vars = record (one_fewer s.vars) { base = eff }; mark = tells s.vars s.mark }
 
--- a periodic packet is due (RFC 5880 section 6.8.7); nothing keeps a head from sending it, AdminDown neither
+-- a periodic packet is due (RFC 5880 section 6.8.7); a head sends it in every state, also in AdminDown
 unfoldable pub settle : HeadConfig → ℕ → ℕ → Course → Course
 settle c limit eff s = if has_come (floor_tick limit) s.vars.tx_due then periodic_packet c eff s else s

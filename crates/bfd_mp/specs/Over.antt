@@ -25,14 +25,14 @@ pub record IsStill (limit : ℕ) (m : Mark) (v : Vars) : Type 0 where
   pub interval_kept : tx_interval v ≡ m.interval
   pub one_kept : one_changed m v ≡ false
 
--- an event of a head with this limit begins: sound variables, and the mark that was made of them
+-- an event of a head with this limit begins: sound variables, and their mark
 pub record IsBegun (limit eff : ℕ) (m : Mark) (v : Vars) : Type 0 where
   pub reached : limit ≤ eff
   pub sound : IsHeadSound v
   pub made : m ≡ begins v
 
--- what settling leaves for the end of a head's event: either a packet moved the base to this moment, or the due tick stands
--- as it was drawn
+-- what settling leaves for the end of a head's event: no packet with F was sent. A packet that moved the base
+-- moved it to this moment. If none did, the due tick stands as it was drawn
 pub record IsSettled (limit eff : ℕ) (m : Mark) (v : Vars) : Type 0 where
   pub unanswered : m.answered ≡ false
   pub based : m.moved ≡ true → v.base ≡ eff

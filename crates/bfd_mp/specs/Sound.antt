@@ -1,4 +1,4 @@
--- The configurations of heads and tails, and the variables that can come up in them (RFC 8562 section 5.4): what holds
+-- The configurations of heads and tails, and the variables that they can have (RFC 8562 section 5.4): what holds
 -- after each rule, and what holds between events.
 use Rattle.std.specs.Prelude.{◌≡◌, ◌≤◌, ◌<◌, ◌^◌, Bool, true, false, None, IsTrue, IsSome, IfSome}
 use Rattle.bfd_packet.specs.declared.control.State.{State}
@@ -39,7 +39,7 @@ is_tail_state Down = true
 is_tail_state Init = false
 is_tail_state Up = true
 
--- what neither kind has a use for is as it was at the start: what is asked of peers, Echo, Demand mode, authentication
+-- what neither kind uses is as it was at the start: Required Min RX, Echo, Demand mode and authentication
 pub record IsUnused (v : Vars) : Type 0 where
   pub rx : v.rx ≡ 0
   pub used_rx : v.used_rx ≡ 0
@@ -72,9 +72,9 @@ pub record IsSilent (c : TailConfig) (v : Vars) : Type 0 where
   pub tx_due : v.tx_due ≡ None
   pub j : v.j ≡ 0
 
--- what holds of a head after each rule: configured values in their ranges, a diagnostic of 5 bits, moments below 2^60; the
--- interval in use is the configured one unless packets with P are still to be sent, and is no longer than it; in AdminDown
--- none are
+-- what holds of a head after each rule: configured values are in their ranges, the diagnostic has 5 bits, and moments are
+-- below 2^60. The interval in use is the configured one, or no longer than it while packets with P are still to be sent. In
+-- AdminDown no packets with P are to be sent
 pub record IsHeadSteady (v : Vars) : Type 0 where
   pub states : IsTrue (is_head_state v.state)
   pub tx_least : 10000 ≤ v.tx
@@ -94,13 +94,13 @@ pub record IsHeadSteady (v : Vars) : Type 0 where
   pub unheard : IsUnheard v
   pub unused : IsUnused v
 
--- what holds of a head between events: a due tick is there, since nothing keeps a head from sending
+-- what holds of a head between events: a due tick is present, since a head sends in every state
 pub record IsHeadSound (v : Vars) : Type 0 where
   pub steady : IsHeadSteady v
   pub due : IsSome v.tx_due
 
--- what holds of a tail after each rule, and so between events: a diagnostic of 5 bits, the head's Detect Mult of 8 and its
--- interval of 32, moments below 2^60; where a packet was heard its Detect Mult is known; and in Up one was heard
+-- what holds of a tail after each rule, and so between events: the diagnostic has 5 bits, the head's Detect Mult 8 and its
+-- interval 32, and moments are below 2^60. When a packet was heard, the head's Detect Mult is known. In Up a packet was heard
 pub record IsTailSound (c : TailConfig) (v : Vars) : Type 0 where
   pub states : IsTrue (is_tail_state v.state)
   pub diag_below : v.diag < 32

@@ -13,8 +13,8 @@ use Rattle.bfd_rules.specs.Quantities.{is_admin_down}
 use Rattle.bfd_rules.specs.EventFrame.{Course, changes, enters}
 use Rattle.bfd_mp.specs.declared.config.TailConfig.{TailConfig}
 
--- the numbers of a packet that a tail keeps fit their fields, and its Detect Mult isn't 0, as those of every packet of bytes
--- that passes the header tests
+-- the numbers of a packet that a tail keeps fit their fields, and its Detect Mult isn't 0, as in every packet of bytes that
+-- passes the header tests
 pub record IsSized (packet : Control) : Type 0 where
   pub some_mult : packet.mult ≢ 0
   pub mult : packet.mult < 256
@@ -34,11 +34,11 @@ machine Up Down v = enters Down 3 v
 machine Up AdminDown v = enters Down 3 v
 machine _ _ v = v
 
--- 2. The state machine takes the received state
+-- 2. The state machine receives the head's state
 unfoldable pub moves_state : TailConfig → Control → Course → Course
 moves_state c packet s = changes c.discr (machine s.vars.state packet.state s.vars) s
 
--- in AdminDown nothing is done but the keeping; P is never answered (RFC 8562 section 5.10)
+-- in AdminDown the fields are kept and nothing more is done; P is never answered (RFC 8562 section 5.10)
 unfoldable pub accepted : TailConfig → ℕ → Control → Course → Course
 accepted c eff packet s =
     let t : Course = keeps_fields eff packet s in

@@ -9,8 +9,7 @@ use Rattle.bfd_rules.specs.EventFrame.{Course, changes, enters}
 use Rattle.bfd_mp.specs.declared.config.TailConfig.{TailConfig}
 use Rattle.bfd_mp.specs.Waiting.{deadline}
 
--- nothing was heard: a tail that is Up goes Down with diagnostic 1, Control Detection Time Expired; it goes on knowing its
--- head
+-- nothing was heard: a tail that is Up goes Down with diagnostic 1, Control Detection Time Expired; it still knows its head
 abbrev pub silenced : Vars → Vars
 silenced v = let w : Vars = record v { heard = None } in if is_up w.state then enters Down 1 w else w
 

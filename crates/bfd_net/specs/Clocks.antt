@@ -1,4 +1,4 @@
--- What two readings of the machine's clock have between them.
+-- The time between two readings of the machine's clock.
 use Rattle.std.specs.Prelude.{◌≡◌, ℕ, ◌-◌, ◌/◌, Option, Some}
 use Rattle.std.specs.declared.time.Instant.{Instant}
 use Rattle.std.specs.Time.{instant_nanos}

@@ -33,7 +33,7 @@ loopback_of number = 0x7f000001 + (number - 1) / 5
 abbrev pub hears_of : ℕ → Option (Port × ℕ)
 hears_of number = if number == 0 then None else Some (port_at ((number - 1) % 5), loopback_of number)
 
--- where the socket of a link is that hears this: of one that only sends on 127.0.0.1, at any port that is free
+-- the socket address of a link that hears this; a link that only sends is on 127.0.0.1, at any free port
 abbrev pub IsSocketPlace : Option (Port × ℕ) → SocketAddrV4 → Type 0
 IsSocketPlace None place = IsIpv4OfBits (v4_ip place) 0x7f000001 × (v4_port place ≡ 0)
 IsSocketPlace (Some (port, address)) place = IsIpv4OfBits (v4_ip place) address × (v4_port place ≡ port_number port)

@@ -31,25 +31,25 @@ pub record UdpHeld : Type 0 where
   pub number : ℕ
   -- the reading of the clock at which its ports were made, if there was one
   pub made : Option Instant
-  -- the port and the address that it hears; none where it only sends
+  -- the port and the address that it hears; none if it only sends
   pub hears : Option (Port × ℕ)
-  -- how many of its last answers were Quiet
+  -- how many answers in a row were Quiet
   pub quiets : ℕ
   pub counts : LinkCounts
 
--- what a link of this number and with these counts tells: no traffic
+-- what is observed of a link of this number and with these counts: no traffic
 abbrev pub counts_told : ℕ × LinkCounts → LinkTold
 counts_told kept = record { number = kept.0; traffic = None; counts = kept.1 }
 
 abbrev pub link_told : UdpHeld → LinkTold
 link_told link = counts_told (link.number, link.counts)
 
--- it answers Ended from here on: it only sends, or its last 500 answers were Quiet
+-- it answers Ended from here on: it only sends, or 500 answers in a row were Quiet
 abbrev pub is_done : Option (Port × ℕ) → ℕ → Bool
 is_done None quiets = true
 is_done (Some hears) quiets = nat_le 500 quiets
 
--- how many answers were Quiet in a row after this one
+-- how many answers in a row were Quiet, after this one; Ended and Memory don't count
 abbrev pub quiets_after : Received → ℕ → ℕ
 quiets_after (Got moment arrival) quiets = 0
 quiets_after Quiet quiets = quiets + 1
@@ -75,13 +75,13 @@ arrival_from from port address payload = record {
   port = port;
 }
 
--- a failed receive: Quiet where nothing came in time
+-- a failed receive: Quiet if nothing came in time
 abbrev pub answer_on_error : ErrorKind → Received
 answer_on_error WouldBlock = Quiet
 answer_on_error TimedOut = Quiet
 answer_on_error kind = Failed
 
--- this packet, at a moment since the ports were made; but for a clock that can't be read, and when out of memory
+-- this packet, at a moment since the ports were made; or the clock can't be read, or memory ran out
 abbrev pub IsGot : Option Instant → Arrival → Received → Type 0
 IsGot made arrival (Got moment came) = (came ≡ arrival) × IsSince made moment
 IsGot made arrival Failed = ⊤
@@ -89,14 +89,14 @@ IsGot made arrival Memory = ⊤
 IsGot made arrival Quiet = ⊥
 IsGot made arrival Ended = ⊥
 
--- the answer where so many bytes of the buffer came from there, or the receive failed
+-- the answer when so many bytes of the buffer came from there, or the receive failed
 abbrev pub IsHeard : Option Instant → Port → ℕ → Result (ℕ × SocketAddr) Error → List ℕ → Received → Type 0
 IsHeard made port address (Ok (count, socket.V4 from)) buffer received =
     IsGot made (arrival_from from port address (take count buffer)) received
 IsHeard made port address (Ok (count, socket.V6 from)) buffer received = received ≡ Failed
 IsHeard made port address (Err error) buffer received = received ≡ answer_on_error (error_kind error)
 
--- a packet of so many bytes goes whole or not at all
+-- a packet of so many bytes was sent whole, or the send failed
 abbrev pub sent_of : Result ℕ Error → ℕ → Result (Unit {0}) Fault
 sent_of (Ok count) long = if count == long then Ok tt else Err fault.Failed
 sent_of (Err error) long = Err fault.Failed

@@ -22,6 +22,6 @@ pub record IsLeastTickFrom (m t : ℕ) : Type 0 where
   pub reaches : m ≤ 1000 * t
   pub least : (u : ℕ) → m ≤ 1000 * u → t ≤ u
 
--- the draw that follows j, of which the jitter of periodic packets is made (RFC 5880 section 6.8.7)
+-- the draw that follows j; the jitter of periodic packets is computed from the draws (RFC 5880 section 6.8.7)
 unfoldable pub next_j : ℕ → ℕ
 next_j j = (1664525 * j + 1013904223) % 2 ^ 32

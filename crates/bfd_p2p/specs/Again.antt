@@ -1,4 +1,4 @@
--- A packet that tells a session in Up nothing new, but perhaps that the peer is in Up too: else it changes when the peer was last heard.
+-- A packet with nothing new for a session in Up, except perhaps that the peer is in Up too. It changes when the peer was last heard.
 use Rattle.std.specs.Prelude.{◌≡◌, ℕ, Some, List}
 use Rattle.bfd_packet.specs.declared.control.State.TheVariants.{Up}
 use Rattle.bfd_rules.specs.declared.config.Config.{Config}
@@ -16,7 +16,7 @@ use Rattle.bfd_p2p.specs.Finish.{finish}
 abbrev pub heard_again : ℕ → Vars → Vars
 heard_again eff v = record v { remote_state = Up; heard = Some eff; at = eff }
 
--- what the parts of the event make of it: settling and the end do nothing, and reception keeps the state and the moment
+-- what the parts of the event do: settling and the end do nothing, and reception keeps the peer's state and the moment
 pub record IsAgain (c : Config) (eff ttl : ℕ) (raw : List ℕ) (v : Vars) : Type 0 where
   pub settled : (m : Mark) (os : List Out) → settle c eff eff (course (stamped (Some eff) v) m os) ≡ course (stamped (Some eff) v) m os
   pub received : (m : Mark) (os : List Out) → received c eff ttl raw (course (stamped (Some eff) v) m os) ≡ course (heard_again eff v) m os

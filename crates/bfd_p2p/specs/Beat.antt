@@ -21,7 +21,7 @@ abbrev pub redrawn_at : ℕ → Vars → Vars
 redrawn_at eff v =
     record v { poll = poll_sent eff v.poll; base = eff; tx_due = Some (pick eff (tx_interval v) v.mult v.j); j = next_j v.j }
 
--- what the parts of the tick make of it: settling sends the packet, so that the outputs become outs, and the end draws the due tick
+-- what the parts of the tick do: settling sends the packet, so that the outputs become outs, and the end draws the due tick
 pub record IsBeat (c : Config) (limit eff : ℕ) (v : Vars) (os outs : List Out) : Type 0 where
   pub settled : settle c limit eff (course v (begins v) os) ≡ course (sent_at eff v) (tells v (begins v)) outs
   pub finished : finish c eff (course (sent_at eff v) (tells v (begins v)) outs) ≡ course (redrawn_at eff v) (tells v (begins v)) outs

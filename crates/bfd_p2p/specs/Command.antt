@@ -64,7 +64,7 @@ is_refused_by c v cmd UnknownSession = false
 abbrev pub refusal : Config → Vars → Cmd → Option Refusal
 refusal c v cmd = find (is_refused_by c v cmd) (WrongKind ∷ OutOfRange ∷ WrongState ∷ PollBusy ∷ [])
 
--- the diagnostic of a concatenated path; where the peer has Demand mode active, a Poll Sequence tells it (section 6.8.17)
+-- the diagnostic of a concatenated path; if Demand mode is active on the remote system, a Poll Sequence carries it (section 6.8.17)
 abbrev pub path_done : ℕ → Vars → Vars
 path_done n v = record v { diag = n; poll = if demand_there v then Wanted else v.poll }
 
@@ -73,7 +73,7 @@ abbrev pub demand_done : Bool → Vars → Vars
 demand_done on v =
     record v { demand = on; poll = if is_up v.state && (if v.demand then not on else on) then Wanted else v.poll }
 
--- what each command makes of the variables (in this order: sections 6.8.16, 6.8.15, 6.8.17, 6.8.11, 6.8.10, 6.8.12,
+-- the variables after each command (in this order: sections 6.8.16, 6.8.15, 6.8.17, 6.8.11, 6.8.10, 6.8.12,
 -- 6.8.14, 6.8.13, and 6.7.2 to 6.7.4)
 abbrev pub done : Config → Cmd → Vars → Vars
 done c Disable v = enters AdminDown 7 v

@@ -1,11 +1,11 @@
--- How an event ends: a change that the peer hasn't been told is told, and the next due tick is drawn.
+-- How an event ends: a change that is still to be sent to the peer is sent, and the next due tick is drawn.
 use Rattle.std.specs.Prelude.{ℕ, false, if◌then◌else◌}
 use Rattle.bfd_rules.specs.declared.config.Config.{Config}
 use Rattle.bfd_rules.specs.EventFrame.{Course, is_untold, based, redrawn}
 use Rattle.bfd_p2p.specs.Transmit.{transmits}
 
--- a changed state or diagnostic is told immediately by one packet with P clear, unless a packet with F has told it or none may be sent
--- (section 6.8.7)
+-- a changed state or diagnostic is sent immediately in one packet with P clear (section 6.8.7). None is sent if a packet with F has
+-- carried it or no packet may be sent
 unfoldable pub extra : Config → ℕ → Course → Course
 extra c eff s = if is_untold c.active s.mark s.vars then based eff (transmits c false false s) else s
 

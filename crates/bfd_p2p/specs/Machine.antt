@@ -52,6 +52,6 @@ initial c = record {
 unfoldable pub made : Config → Vars
 made c = drawn c.active (begins (initial c)) (initial c)
 
--- the session fails for another reason than silence, as the Echo function tells it (section 6.8.5)
+-- the session fails for another reason than silence, as when the Echo function has failed (section 6.8.5)
 abbrev pub failed : ℕ → Vars → Vars
 failed diag v = enters Down diag v

@@ -23,14 +23,15 @@ pub record IsStill (limit : ℕ) (m : Mark) (v : Vars) : Type 0 where
   pub interval_kept : tx_interval v ≡ m.interval
   pub one_kept : one_changed m v ≡ false
 
--- an event with this limit begins: sound variables, and the mark that was made of them
+-- an event with this limit begins: sound variables, and their mark
 pub record IsBegun (c : Config) (limit eff : ℕ) (m : Mark) (v : Vars) : Type 0 where
   pub reached : limit ≤ eff
   pub sound : IsSound c v
   pub made : m ≡ begins v
 
--- what settling leaves for the end of the event: no deadline has come; and either a packet moved the base to this moment,
--- or the due tick stands as it was drawn, unless there is news to tell; a session that is Up was Up at the start
+-- what settling leaves for the end of the event: no deadline has come, no packet with F was sent, and a session that is Up
+-- was Up at the start. A packet that moved the base moved it to this moment. The due tick stands as it was drawn if no packet
+-- moved the base, there is no news, and packets may be sent
 pub record IsSettled (active : Bool) (limit eff : ℕ) (m : Mark) (v : Vars) : Type 0 where
   pub late : has_come limit (deadline v) ≡ false
   pub seq_late : has_come limit (seq_deadline v) ≡ false

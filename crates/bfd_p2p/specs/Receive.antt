@@ -105,7 +105,7 @@ machine Up AdminDown v = enters Down 3 v
 machine Up Down v = enters Down 3 v
 machine _ _ v = v
 
--- 4. The state machine takes the received state
+-- 4. The state machine receives the peer's state
 unfoldable pub moves_state : Config → ℕ → Control → Course → Course
 moves_state c eff packet s = moves c.discr eff (machine s.vars.state packet.state s.vars) s
 
@@ -116,7 +116,7 @@ answers c packet s =
     then (let sent : Course = transmits c false true s in record sent { mark = record s.mark { answered = true } })
     else s
 
--- what a packet that passes the tests leaves, up to the test on AdminDown
+-- what a packet that passes the tests changes, up to the test on AdminDown
 unfoldable pub kept : Config → ℕ → Control → SeqState → Course → Course
 kept c eff packet seq s = ends_poll eff packet (keeps_fields eff packet (keeps_sequence c eff seq s))
 
@@ -126,7 +126,7 @@ accepted c eff packet seq s =
     let t : Course = kept c eff packet seq s in
     if is_admin_down t.vars.state then t else answers c packet (moves_state c eff packet t)
 
--- a packet that the tests pass is taken; one that they refuse changes nothing
+-- a packet that passes the tests is accepted; one that fails a test changes nothing
 unfoldable pub received_on : Config → ℕ → Control → Result SeqState Test → Course → Course
 received_on c eff packet (Ok seq) s = accepted c eff packet seq s
 received_on c eff packet (Err test) s = s

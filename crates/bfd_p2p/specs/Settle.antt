@@ -27,7 +27,7 @@ unfoldable pub detection : Config → ℕ → ℕ → Course → Course
 detection c limit eff s =
     if has_come limit (deadline s.vars) then moves c.discr eff (goes_silent (forgets_peer s.vars)) s else s
 
--- the received sequence number is not known any more
+-- the received sequence number is no longer known
 abbrev pub forgets_sequence : Vars → Vars
 forgets_sequence v =
     record v { seq = record { xmit = v.seq.xmit; rcv = v.seq.rcv; known = false }; seq_heard = None }
@@ -37,7 +37,7 @@ unfoldable pub sequence : ℕ → ℕ → Course → Course
 sequence limit eff s =
     if has_come limit (seq_deadline s.vars) then renews eff (forgets_sequence s.vars) s else s
 
--- a Poll Sequence that is wanted begins with this packet (section 6.5)
+-- a Poll Sequence that was asked for begins with this packet (section 6.5)
 abbrev pub poll_sent : ℕ → Poll → Poll
 poll_sent eff Idle = Idle
 poll_sent eff Wanted = Running eff

@@ -33,7 +33,7 @@ packet_of c v poll fin = record {
   min_echo = 0;
 }
 
--- its bytes: plain, or sealed with the key that is sent with (section 6.7)
+-- its bytes: plain, or sealed with the sending key (section 6.7)
 abbrev pub packet_bytes : Option KeyChain → ℕ → SeqState → Control → List ℕ
 packet_bytes None sending seq packet = text_of packet []
 packet_bytes (Some keys) sending seq packet = sealed keys sending seq packet

@@ -19,7 +19,7 @@ header_fails Multipoint payload = flag_of 0 payload
 header_fails MyDiscr payload = word_at 4 payload == 0
 header_fails _ payload = false
 
--- the port takes multipoint packets, which name a tail (RFC 8562)
+-- the port receives multipoint packets, which name a tail (RFC 8562)
 abbrev pub takes_multipoint_of : Port → Bool
 takes_multipoint_of Single = true
 takes_multipoint_of _ = false

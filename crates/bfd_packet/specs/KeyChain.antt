@@ -58,7 +58,7 @@ place_of id keys = position (λ key. id == key.id) keys
 abbrev pub key_named : ℕ → List Key → Option Key
 key_named id keys = find (λ key. id == key.id) keys
 
--- what stands where there is no key
+-- the placeholder if there is no key
 abbrev pub no_key : Key
 no_key = record { id = 0; secret = [] }
 

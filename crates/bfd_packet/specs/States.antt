@@ -3,7 +3,7 @@ use Rattle.std.specs.Prelude.{ℕ, List, Bool, true, false, codes}
 use Rattle.bfd_packet.specs.declared.control.State.{State}
 use Rattle.bfd_packet.specs.declared.control.State.TheVariants.{AdminDown, Down, Init, Up}
 
--- who is in this state has heard the other side
+-- a session in this state has heard its peer
 abbrev pub is_init_or_up : State → Bool
 is_init_or_up Init = true
 is_init_or_up Up = true

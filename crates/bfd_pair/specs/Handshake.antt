@@ -1,4 +1,4 @@
--- How a side comes to Up: only by the other side's answer to a packet of its own (RFC 5880 sections 6.2 and 6.8.6).
+-- How a side enters Up: only by the other side's answer to a packet of its own (RFC 5880 sections 6.2 and 6.8.6).
 use Rattle.std.specs.Prelude.{◌≡◌, ℕ, Bool, true, false, ◌||◌, Some, List, [], ◌∷◌, ◌++◌, ◌<◌, length}
 use Rattle.bfd_packet.specs.Layout.{fields_of}
 use Rattle.bfd_packet.specs.States.{is_init_or_up}
@@ -14,7 +14,7 @@ use Rattle.bfd_pair.specs.declared.event.PairEvent.TheVariants.{Give}
 use Rattle.bfd_pair.specs.declared.event.PairAnswer.TheVariants.{Did}
 use Rattle.bfd_pair.specs.Run.{other, side_of, packet_at, pair_run, turn}
 
--- a change to Up is told among these outputs
+-- one of these outputs reports a change to Up
 abbrev pub tells_up : List Out → Bool
 tells_up [] = false
 tells_up (Changed discr old new diag ∷ items) = is_up new || tells_up items
@@ -39,9 +39,8 @@ pub record Heard (left right : SessionConfig) (side : Side) (past : List PairEve
 abbrev pub sent_by_then : (left right : SessionConfig) (side : Side) (past : List PairEvent) → Heard left right side past → ℕ
 sent_by_then left right side past h = length (side_of side (pair_run left right h.before)).sent
 
--- this event after this past gives the side a packet of the other side that is in Init or Up and has the side's discriminator as
--- Your Discriminator. In the past the other side handled a packet of this side, and the packet given is none that it had
--- sent before then
+-- this event after this past gives the side a packet of the other side. The packet's state is Init or Up, and its Your Discriminator
+-- is the side's discriminator. In the past the other side handled a packet of this side, and it hadn't sent the given packet before that
 pub record IsHandshake (left right : SessionConfig) (side : Side) (event : PairEvent) (past : List PairEvent) : Type 0 where
   pub moment : ℕ
   pub number : ℕ

@@ -28,7 +28,7 @@ by_way way bytes = record {
   payload = bytes;
 }
 
--- the session is point-to-point, the table has its one row, and packets come to it as its configuration says
+-- the session is point-to-point, the table has its one row, and packets reach it as its configuration says
 pub record IsPeer (p : Peer) : Type 0 where
   pub table : p.table ≡ row_of p.session.config ∷ []
   pub way : (bytes : List ℕ) → arrival_to p.session.config bytes ≡ Some (by_way p.way bytes)
@@ -42,7 +42,7 @@ pub record Pairing : Type 0 where
 abbrev pub pairing_of : Peer → Peer → List PairEvent → Pairing
 pairing_of left right past = record { left = left.session.config; right = right.session.config; past = past }
 
--- the two sides are what the past makes of them
+-- the two sides are as they are after the past
 pub record IsPair (left right : Peer) (last : ℕ) (past : List PairEvent) : Type 0 where
   pub left_peer : IsPeer left
   pub right_peer : IsPeer right

@@ -19,12 +19,12 @@ abbrev pub found : PairAnswer → ℕ
 found (Did answer) = 1
 found (NoPacket count) = 0
 
--- the packets that an event gives: one, where it is a Give that found its packet, though a test may discard it
+-- the packets that an event gives: one if it is a Give that found its packet, even if a test discards it
 abbrev pub given_in : PairEvent → PairTurn → ℕ
 given_in (Give to moment number) t = found t.answer
 given_in event t = 0
 
--- an output that tells a change to Up
+-- an output that reports a change to Up
 abbrev pub is_rise : Out → Bool
 is_rise (Changed discr old new diag) = is_up new
 is_rise (Sent discr datagram) = false
@@ -33,7 +33,7 @@ is_rise (Sent discr datagram) = false
 abbrev pub rises_in : PairEvent → PairTurn → ℕ
 rises_in event t = count_by is_rise (t.left_items ++ t.right_items)
 
--- the sum of a number over events, by each and by what it makes of both
+-- the sum of a number over events, by each event and its result
 unfoldable pub total_over : (PairEvent → PairTurn → ℕ) → List PairEvent → Both → ℕ
 total_over count [] w = 0
 total_over count (event ∷ events) w = count event (turn event w) + total_over count events (turn event w).both
@@ -51,8 +51,8 @@ line_by events sent given left right rises =
 abbrev pub sent_in : Both → ℕ
 sent_in w = length w.left.sent + length w.right.sent
 
--- the line of two sides of a seed after these events: how many events there were, how many packets both sides sent, how many
--- they were given, the state of each, and how many changes to Up there were
+-- the line of two sides of a seed after these events: how many events there were, how many packets both sides sent and were
+-- given, the state of each, and how many changes to Up there were
 abbrev pub line_of : ℕ → List PairEvent → Both → List ℕ
 line_of seed past w =
     line_by (length past) (sent_in w) (total_of given_in seed past) w.left.session.vars.state w.right.session.vars.state

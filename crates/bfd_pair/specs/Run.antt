@@ -34,13 +34,13 @@ pub record Both : Type 0 where
   pub right : End
   pub last : ℕ
 
--- what an event makes of one side, what that side puts out in it, and the answer
+-- one side after an event, what that side emits in it, and the answer
 pub record Move : Type 0 where
   pub end : End
   pub items : List Out
   pub answer : PairAnswer
 
--- what an event makes of both, what each puts out in it, and the answer
+-- both sides after an event, what each emits in it, and the answer
 pub record PairTurn : Type 0 where
   pub both : Both
   pub left_items : List Out
@@ -88,7 +88,7 @@ arrival_to _ bytes = None
 abbrev pub screened : SessionConfig → Arrival → Option Test
 screened config arrival = first_table_failing (row_of config ∷ []) arrival
 
--- the packets that an event puts out have been sent
+-- the packets that an event emits have been sent
 abbrev pub sending : Running → List Out → End → End
 sending s items e = record { session = s; sent = e.sent ++ packets_among items }
 
@@ -112,7 +112,7 @@ judged_move None moment last arrival e = own_move moment last (Packet arrival) e
 abbrev pub arrives : ℕ → ℕ → Arrival → End → Move
 arrives moment last arrival e = judged_move (screened e.session.config arrival) moment last arrival e
 
--- a packet comes to a side
+-- a packet reaches a side
 abbrev pub comes : Option Arrival → ℕ → ℕ → End → Move
 comes None moment last e = side_rests (Did (Dropped NoSession)) e
 comes (Some arrival) moment last e = arrives moment last arrival e

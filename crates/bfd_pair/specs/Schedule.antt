@@ -51,7 +51,7 @@ unfoldable pub draw : ℕ → ℕ → ℕ
 draw seed zero = seed
 draw seed (suc e) = next_j (draw seed e)
 
--- the number of a packet among so many, by the draw's low 16 bits; 1 where there is none
+-- the number of a packet among so many, by the draw's low 16 bits; 1 if there is none
 abbrev pub packet_by : ℕ → ℕ → ℕ
 packet_by j count = if count == 0 then 1 else 1 + (j % 65536) % count
 
@@ -70,7 +70,7 @@ event_by e j w =
     else if choice j == 2 then giving Left e j w
     else giving Right e j w
 
--- the first so many events of the seed: each is chosen over what the ones before it have made of the two
+-- the first so many events of the seed: each is chosen for the two as the events before it have left them
 unfoldable pub schedule : ℕ → ℕ → List PairEvent
 schedule seed zero = []
 schedule seed (suc e) = schedule seed e ++ event_by (suc e) (draw seed (suc e)) (run_of_seed seed (schedule seed e)) ∷ []

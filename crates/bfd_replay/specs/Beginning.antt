@@ -9,8 +9,8 @@ use Rattle.bfd_replay.specs.Happenings.{told_apart}
 use Rattle.bfd_replay.specs.Planned.{AreQueues, IsMet, happenings}
 use Rattle.bfd_replay.specs.declared.plan.plan.Plan.{Plan}
 
--- the table of the sessions and the reflectors, the queues of so many shards, and what is told of the events of no session; the others
--- are events that the sessions may be given
+-- the table of the sessions and the reflectors, the queues of so many shards, and the report of the events of no session; the other
+-- events are some that the sessions may be given
 pub record IsBeginning (configs : List SessionConfig) (pool : List Reflector) (events : List Line) (shards : ℕ) (plan : Plan) : Type 0 where
   pub table : plan.table ≡ members configs pool
   pub queues : AreQueues shards (happenings configs pool events) plan.queues.items

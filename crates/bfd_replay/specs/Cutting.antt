@@ -5,7 +5,7 @@ use Rattle.bfd_replay.specs.declared.report.key.Key.{Key}
 use Rattle.bfd_replay.specs.Inside.{first_key, rank_key}
 use Rattle.bfd_replay.specs.Pieces.{Piece, precedes}
 
--- pieces are cut before the first one whose key doesn't stand before that of this rank
+-- pieces are cut before the first one whose key doesn't come before the key of this rank
 pub record IsHalved (rank : ℕ) (pieces front back : List Piece) : Type 0 where
   pub whole : pieces ≡ front ++ back
   pub below : AllByRecursion (λ p. precedes p.key (rank_key rank) ≡ true) front

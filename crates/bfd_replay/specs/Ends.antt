@@ -24,21 +24,21 @@ pub record IsDoneJob (engine : Shards) (queues : List (List Numbered)) (workers 
   pub own : AreOwn workers at queues mine
   pub ended : HasEnded engine mine w.pass w.told
 
--- it ended with a part of each shard, or when out of memory
+-- it ended with a part of each shard, or it ran out of memory
 abbrev pub IsFine : Result (List (List Piece)) EngineFault → Type 0
 IsFine (Ok parts) = Unit {0}
 IsFine (Err Memory) = Unit {0}
 IsFine (Err (Full at n)) = ⊥
 IsFine (Err (Spent at word)) = ⊥
 
--- what the worker at this place of so many told of each shard that it takes, if it ended with parts: what its queue's events give
+-- what the worker at this place of so many reported of each shard that it handles, if it ended with parts: its queue's events
 abbrev pub HasToldShards : Shards → List (List Numbered) → ℕ → ℕ → Result (List (List Piece)) EngineFault → Type 0
 HasToldShards engine queues workers at (Err fault) = Unit {0}
 HasToldShards engine queues workers at (Ok parts) = (length parts ≡ length engine.locks)
     × ((shard : ℕ) → shard < length engine.locks → shard % workers ≡ at
     → slice_index_or parts shard [] ≡ shard_tells 0 (slice_index_or queues shard []) (map started (configs_at engine shard)))
 
--- the workers' parts: shard by shard what its queue's events give, told by its worker
+-- the workers' parts: shard by shard its queue's events, reported by its worker
 pub record AreTold (engine : Shards) (queues : List (List Numbered)) (workers : ℕ) (all : List (List (List Piece))) : Type 0 where
   pub long : length all ≡ workers
   pub wide : (at : ℕ) → at < workers → length (slice_index_or all at []) ≡ length engine.locks
@@ -46,7 +46,7 @@ pub record AreTold (engine : Shards) (queues : List (List Numbered)) (workers : 
       → slice_index_or (slice_index_or all (shard % workers) []) shard []
       ≡ shard_tells 0 (slice_index_or queues shard []) (map started (configs_at engine shard))
 
--- a closed shard: made of its configurations, and its journal has the queue's events alone, all brought by its worker
+-- a closed shard: it is built from its configurations, and its journal has only the queue's events, all brought by its worker
 pub record IsState (engine : Shards) (queues : List (List Numbered)) (workers number : ℕ) (shard : Shard) : Type 0 where
   pub configs : configs_of shard.sessions ≡ configs_at engine number
   pub journal : shard.journal ≡ entries_by (number % workers + 1) (events_in (slice_index_or queues number []))

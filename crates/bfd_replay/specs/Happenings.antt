@@ -1,4 +1,4 @@
--- The events of a replay, and who tells of them where its sessions are dealt out to shards.
+-- The events of a replay, and who reports them when its sessions are distributed over shards.
 use Rattle.std.specs.Prelude.{ℕ, ◌≡◌, ◌<◌, ◌+◌, List, [], ◌∷◌, ◌++◌, length, slice_index_or, Option, None, Some}
 use Rattle.std.specs.List.{cons_option}
 use Rattle.bfd_session.specs.Alone.{Outcome}
@@ -10,13 +10,13 @@ use Rattle.bfd_shard.specs.History.{later, moved, outcome_of}
 use Rattle.bfd_replay.specs.declared.report.queue.Numbered.{Numbered}
 use Rattle.bfd_replay.specs.Pieces.{Piece, whole_piece, event_pieces}
 
--- an event of no session, which gives this, or an event of the table's sessions, where an own event has its place in the
--- whole table
+-- an event of no session, with its outcome, or an event of the table's sessions; an own event has its place in the whole
+-- table
 pub data Happening : Type 0 where
   Apart : Outcome → Happening
   Among : ShardEvent → Happening
 
--- what they give one after another, from these sessions and this last tick on
+-- their outcomes one after another, from these sessions and this last tick on
 abbrev pub happening_outcomes : ℕ → List Happening → List Running → List Outcome
 happening_outcomes last [] sessions = []
 happening_outcomes last (Apart outcome ∷ rest) sessions = outcome ∷ happening_outcomes last rest sessions
@@ -28,7 +28,7 @@ abbrev pub session_event : Happening → Option ShardEvent
 session_event (Apart outcome) = None
 session_event (Among event) = Some event
 
--- an event as the shard of this number has it, if it has it, of so many shards
+-- an event as the shard of this number, of so many, has it, if it has it
 abbrev pub in_shard : ℕ → ℕ → Happening → Option ShardEvent
 in_shard shards shard (Apart outcome) = None
 in_shard shards shard (Among event) = event_in shards shard event
@@ -38,24 +38,24 @@ abbrev pub numbered : ℕ → Option ShardEvent → Option Numbered
 numbered number None = None
 numbered number (Some event) = Some (record { number = number; event = event })
 
--- the events of a shard, where the first of these has this number
+-- the events of a shard; the first of all these events has this number
 abbrev pub queue : ℕ → ℕ → ℕ → List Happening → List Numbered
 queue shards shard number [] = []
 queue shards shard number (h ∷ rest) = cons_option (numbered number (in_shard shards shard h)) (queue shards shard (number + 1) rest)
 
--- the queues of so many shards, where one event more was dealt out to them
+-- the queues of so many shards, after one more event was distributed over them
 abbrev pub AreQueued : ℕ → ShardEvent → List (List Numbered) → List (List Numbered) → Type 0
 AreQueued number event before after = (shard : ℕ) → shard < length before
     → slice_index_or after shard [] ≡ slice_index_or before shard []
     ++ cons_option (numbered number (event_in (length before) shard event)) []
 
--- what a shard tells of its events, from these sessions of its own and this last tick on
+-- what a shard reports of its events, from these sessions of its own and this last tick on
 abbrev pub shard_tells : ℕ → List Numbered → List Running → List Piece
 shard_tells last [] sessions = []
 shard_tells last (e ∷ rest) sessions =
     event_pieces e.number e.event (outcome_of last e.event sessions) ++ shard_tells (later last e.event) rest (moved last e.event sessions)
 
--- what one shard with the whole table would tell of all these events, where the first has this number
+-- what one shard with the whole table would report of all these events; the first has this number
 abbrev pub told_whole : ℕ → ℕ → List Happening → List Running → List Piece
 told_whole number last [] sessions = []
 told_whole number last (Apart outcome ∷ rest) sessions = whole_piece number outcome ∷ told_whole (number + 1) last rest sessions
@@ -63,14 +63,14 @@ told_whole number last (Among event ∷ rest) sessions =
     event_pieces number event (outcome_of last event sessions)
     ++ told_whole (number + 1) (later last event) rest (moved last event sessions)
 
--- what is told of the events of no session, where the first of these has this number
+-- what is reported of the events of no session; the first of all these events has this number
 abbrev pub told_apart : ℕ → List Happening → List Piece
 told_apart number [] = []
 told_apart number (Apart outcome ∷ rest) = whole_piece number outcome ∷ told_apart (number + 1) rest
 told_apart number (Among event ∷ rest) = told_apart (number + 1) rest
 
--- the parts of a replay of these events on so many shards, where the first event has this number: what each shard tells, and
--- last what is told of the events of no session
+-- the parts of a replay of these events on so many shards; the first event has this number. They are what each shard reports,
+-- and last what is reported of the events of no session
 pub record AreParts (shards number last : ℕ) (events : List Happening) (sessions : List Running) (parts : List (List Piece)) : Type 0 where
   pub some : 0 < shards
   pub long : length parts ≡ shards + 1

@@ -28,7 +28,7 @@ pub record IsPart (marks : List Mark) (text : List ℕ) : Type 0 where
   pub whole : sum_by (λ m. m.long) marks ≡ length text
   pub counts : AllByRecursion (λ m. m.txs + m.drops ≤ m.long) marks
 
--- of pieces the first
+-- the key of the first piece, if there is one
 abbrev pub first_key : List Piece → Option Key
 first_key [] = None
 first_key (p ∷ rest) = Some p.key

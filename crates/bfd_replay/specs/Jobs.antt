@@ -9,12 +9,12 @@ use Rattle.bfd_replay.specs.declared.report.queue.Numbered.{Numbered}
 use Rattle.bfd_replay.specs.Pieces.{Piece}
 use Rattle.bfd_replay.specs.Working.{HasFinished, HasLeft, HasStopped, IsIdle}
 
--- a result, with what it is of seen so
+-- a result, with its value seen so
 abbrev pub seen_as : {A B E : Type 0} → (A → B) → Result A E → Result B E
 seen_as f (Ok a) = Ok (f a)
 seen_as f (Err e) = Err e
 
--- a worker's pass, its queues by shard, and what it told of each shard, or why it stopped
+-- a worker's pass, its queues by shard, and what it reported of each shard, or why it stopped
 pub record Work : Type 0 where
   pub pass : Knows
   pub queues : List (List Numbered)
@@ -30,8 +30,8 @@ pub record HasWorkedOn (engine : Shards) (before after : Work) : Type 0 where
   pub left : HasLeft engine before.queues before.pass after.pass
   pub ended : HasEnded engine before.queues after.pass after.told
 
--- what the worker at this place of so many has of a shard's queue: the shard is its own where its number, divided by theirs,
--- leaves the place
+-- what the worker at this place of so many has of a shard's queue: the shard is its own if the shard's number, divided by the
+-- number of workers, leaves the place
 abbrev pub own_queue : ℕ → ℕ → ℕ → List Numbered → List Numbered
 own_queue workers at shard queue = if shard % workers == at then queue else []
 
@@ -75,7 +75,7 @@ pub record IsJoining (engine : Shards) (most : ℕ) (w : Work) : Type 0 where
   pub number : w.pass.0 ≢ 0
   pub few : (shard : ℕ) → shard < length engine.locks → taken_at w.pass shard ≤ most
 
--- on a shard caller 0 knew k, and knows l once it has taken in the passes of these jobs
+-- on a shard caller 0 knew k, and knows l after it has joined the passes of these jobs
 pub record JobsAreJoined (most : ℕ) (k l : Knows) (works : List Work) (shard : ℕ) : Type 0 where
   pub own : mine l shard ≡ mine k shard
   pub kept : kept_at l shard ≡ kept_at k shard ++ map (λ w. (w.pass.0, mine w.pass shard)) works

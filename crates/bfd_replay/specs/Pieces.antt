@@ -1,4 +1,4 @@
--- What shards tell of their events, in pieces of text.
+-- What shards report of their events, in pieces of text.
 use Rattle.std.specs.Prelude.{ℕ, ◌&&◌, ◌||◌, ◌==◌, Bool, List, [], ◌∷◌, nat_lt, map}
 use Rattle.std.specs.List.{flat_map}
 use Rattle.bfd_rules.specs.declared.outputs.Out.{Out}
@@ -9,7 +9,7 @@ use Rattle.bfd_shard.specs.declared.entry.ShardEvent.TheVariants.{Own, Tick}
 use Rattle.bfd_script.specs.Report.{item_line, event_lines, packets_sent, packets_sent_by, dropped}
 use Rattle.bfd_replay.specs.declared.report.key.Key.{Key}
 
--- a piece of a report: its key, its text, and how many packets it tells were sent and were dropped
+-- a piece of a report: its key, its text, and how many packets it reports as sent and as dropped
 pub record Piece : Type 0 where
   pub key : Key
   pub text : List ℕ
@@ -38,7 +38,7 @@ whole_piece number outcome =
 abbrev pub item_piece : ℕ → Out → Piece
 item_piece number out = record { key = key number (named out); text = item_line number out; txs = packets_sent_by out; drops = 0 }
 
--- the pieces of an event of a shard, which gave this outcome
+-- the pieces of an event of a shard, which had this outcome
 abbrev pub event_pieces : ℕ → ShardEvent → Outcome → List Piece
 event_pieces number (Own place moment event) outcome = whole_piece number outcome ∷ []
 event_pieces number (Tick t) outcome = map (item_piece number) outcome.items

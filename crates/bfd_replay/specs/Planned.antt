@@ -1,4 +1,4 @@
--- What each line of a script is, where its sessions are dealt out to shards.
+-- What each line of a script resolves to when its sessions are distributed over shards.
 use Rattle.std.specs.Prelude.{ℕ, ◌≡◌, ◌<◌, ◌≤◌, ◌+◌, ◌++◌, List, [], ◌∷◌, length, map, reverse, slice_get, slice_index_or, Option, None}
 use Rattle.std.specs.Prelude.{Some, Result, Ok, Err}
 use Rattle.std.specs.Global.{Vec}
@@ -25,7 +25,7 @@ use Rattle.bfd_replay.specs.declared.plan.runs.Run.{Run}
 use Rattle.bfd_replay.specs.declared.plan.routing.Route.{Route}
 use Rattle.bfd_replay.specs.declared.plan.routing.Route.TheVariants as routes
 
--- what an event gives that changes no session, and has this answer
+-- the outcome of an event that changes no session, and has this answer
 abbrev pub resting : Answer → Outcome
 resting answer = record { items = []; answer = answer }
 
@@ -33,13 +33,13 @@ resting answer = record { items = []; answer = answer }
 abbrev pub sent_outcome : ℕ → Datagram → Outcome
 sent_outcome discr datagram = record { items = Sent discr datagram ∷ []; answer = Handled }
 
--- what a reflector's packet gives (RFC 7880 section 7.2)
+-- the outcome of a reflector's packet (RFC 7880 section 7.2)
 abbrev pub reflecting : Option Reflector → Result Datagram Test → Outcome
 reflecting reflector (Err test) = resting (Dropped test)
 reflecting None (Ok datagram) = resting Handled
 reflecting (Some reflector) (Ok datagram) = sent_outcome reflector.discr datagram
 
--- an event of no session, with what it gives, or an event of the table's sessions
+-- an event of no session, with its outcome, or an event of the table's sessions
 abbrev pub happening_by : List Reflector → Doing → Happening
 happening_by pool (Rests answer) = Apart (resting answer)
 happening_by pool (Reflects place arrival) = Apart (reflecting (slice_get pool place) (reflect pool arrival))
@@ -73,14 +73,14 @@ pub record AreQueues (shards : ℕ) (events : List Happening) (queues : List (Li
   pub long : length queues ≡ shards
   pub each : (shard : ℕ) → shard < shards → slice_index_or queues shard [] ≡ queue shards shard 1 events
 
--- the event of this number was taken into the queues, and into what is told of the events of no session
+-- the event of this number was added to the queues, or to the report of the events of no session
 pub record IsPlanned (number : ℕ) (h : Happening) (before after : List (List Numbered)) (apart apart2 : List Piece) : Type 0 where
   pub queued : (shard : ℕ) → shard < length before
       → slice_index_or after shard [] ≡ slice_index_or before shard []
       ++ cons_option (numbered number (in_shard (length before) shard h)) []
   pub told : apart2 ≡ apart ++ told_apart number (h ∷ [])
 
--- runs of lines one after another, where the first line has this number
+-- runs of lines one after another; the first line has this number
 abbrev pub Follow : ℕ → List Run → Type 0
 Follow number [] = Unit {0}
 Follow number (r ∷ rest) = (r.first ≡ number) × Follow (number + length r.lines.items) rest
@@ -105,7 +105,7 @@ pub record IsRunPlanned (configs : List SessionConfig) (pool : List Reflector) (
 abbrev pub IsPlanOf : List SessionConfig → List Reflector → ℕ → Run → Vec (Vec Numbered) × List Piece → Type 0
 IsPlanOf configs pool shards run plan = IsRunPlanned configs pool shards run.first run.lines.items (map (λ q. q.items) plan.0.items) plan.1
 
--- a queue more behind each, as far as there are queues
+-- each queue with one more behind it, as far as there are more
 abbrev pub behind : List (List Numbered) → List (List Numbered) → List (List Numbered)
 behind [] more = []
 behind (x ∷ xs) [] = x ∷ xs

@@ -1,4 +1,4 @@
--- Pieces of a report that were dealt out to parts.
+-- Pieces of a report that are distributed over parts.
 use Rattle.std.specs.Prelude.{ℕ, ◌≡◌, ◌⊎◌, ◌<◌, ◌==◌, true, List, [], ◌∷◌, length, map, slice_index_or, sum_by}
 use Rattle.std.specs.List.{AllByRecursion, filter, flat_map}
 use Rattle.bfd_replay.specs.Pieces.{Piece, precedes}
@@ -34,7 +34,7 @@ pub record IsSpread (dealt : List Dealt) (parts : List (List Piece)) : Type 0 wh
 abbrev pub dealt_text : List Dealt → List ℕ
 dealt_text dealt = flat_map (λ d. d.piece.text) dealt
 
--- the text of the parts' pieces in the order of the report, and how many packets they tell were sent and were dropped
+-- the text of the parts' pieces in the order of the report, and how many packets they report as sent and as dropped
 abbrev pub Gathers : List (List Piece) → List ℕ → ℕ → ℕ → Type 0
 Gathers parts text txs drops = (dealt : List Dealt) → IsSpread dealt parts
     → (text ≡ dealt_text dealt) × (txs ≡ sum_by (λ d. d.piece.txs) dealt) × (drops ≡ sum_by (λ d. d.piece.drops) dealt)

@@ -1,4 +1,4 @@
--- What was told so far of a replay's events.
+-- What was reported so far of a replay's events.
 use Rattle.std.specs.Prelude.{◌≡◌, ◌+◌, ◌++◌, ◌∷◌, ℕ, List, length, map, slice_get, sum_by, Option, Some, Result, Err}
 use Rattle.std.specs.List.{filter_map}
 use Rattle.bfd_edge.specs.declared.fault.Fault.{Fault}
@@ -21,15 +21,15 @@ use Rattle.bfd_replay.specs.Turning.{AllSole, IsCutShort, IsRefusal, HasSeen, ou
 use Rattle.bfd_replay.specs.Working.{entries_by}
 use Rattle.bfd_replay.specs.Written.{TookFront, TookUpTo}
 
--- the text that no sink took yet, and how many events were told, with how many packets that were sent and were dropped in them
+-- the text that no sink has accepted yet, how many events were reported, and how many packets were sent and dropped in them
 pub record Telling : Type 0 where
   pub text : List ℕ
   pub events : ℕ
   pub txs : ℕ
   pub drops : ℕ
 
--- of events that give these outcomes all were told but those that give the rest: a sink took a prefix of their lines, and what it didn't
--- take is kept; and their packets were counted
+-- of the events with these outcomes, all were reported except those with the rest. A sink accepted a prefix of their lines, and the
+-- remaining text is kept. Their packets were counted
 pub record ToldUpTo (old new : Option (List ℕ)) (before after : Telling) (outcomes rest : List Outcome) : Type 0 where
   pub lines : TookUpTo old new (before.text ++ lines_from (before.events + 1) outcomes) (after.text ++ lines_from (after.events + 1) rest)
   pub events : after.events + length rest ≡ before.events + length outcomes
@@ -41,29 +41,29 @@ abbrev pub HasStopCause : ℕ → ℕ → Stop → Type 0
 HasStopCause before now (Refused fault) = now ≡ before
 HasStopCause before now (Unwritten fault) = (let written : Result (Unit {0}) Fault = Err fault in HasCause before now written)
 
--- why one event's lines weren't told
+-- why one event's lines weren't reported
 abbrev pub IsEventStop : Shards → Knows → Knows → Stop → Type 0
 IsEventStop engine k l (Refused fault) = IsRefusal fault engine k l
 IsEventStop engine k l (Unwritten fault) = Unit {0}
 
--- why the lines of some events weren't told
+-- why the lines of some events weren't reported
 abbrev pub IsStop : Shards → Knows → Stop → Type 0
 IsStop engine l (Refused fault) = IsCutShort fault engine l
 IsStop engine l (Unwritten fault) = Unit {0}
 
--- if caller 0 is the engine's only one, the event's lines were told
+-- if caller 0 is the engine's only one, the event's lines were reported
 abbrev pub HasToldEvent : Shards → Happening → Knows → Knows → Option (List ℕ) → Option (List ℕ) → Telling → Telling → Type 0
 HasToldEvent engine h k l old new before after = AllSole (length engine.locks) l → (past : List ShardEvent) → HasSeen engine past k
     → (rest : List Outcome)
     → ToldUpTo old new before after (outcome_in (last_tick past) h (runs past engine.configs) ∷ rest) rest
 
--- .. or a prefix of what was told with them
+-- .. or a sink accepted a prefix of the text with them
 abbrev pub HasToldFront : Shards → Happening → Knows → Knows → Option (List ℕ) → Option (List ℕ) → Telling → Type 0
 HasToldFront engine h k l old new before = AllSole (length engine.locks) l → (past : List ShardEvent) → HasSeen engine past k
     → (rest : List Outcome)
     → TookFront old new (before.text ++ lines_from (before.events + 1) (outcome_in (last_tick past) h (runs past engine.configs) ∷ rest))
 
--- what events give on a new engine
+-- the outcomes of events on a new engine
 abbrev pub outcomes_on : Shards → List Happening → List Outcome
 outcomes_on engine hs = happening_outcomes 0 hs (map started engine.configs)
 
@@ -71,13 +71,13 @@ outcomes_on engine hs = happening_outcomes 0 hs (map started engine.configs)
 abbrev pub HasBrought : Shards → List Happening → Knows → Type 0
 HasBrought engine hs l = AllSole (length engine.locks) l → HasSeen engine (filter_map session_event hs) l
 
--- the shards, once they are closed: each one's journal has its own of these events, brought by caller 0
+-- the closed shards: each one's journal has its own of these events, brought by caller 0
 pub record IsClosedAfter (engine : Shards) (hs : List Happening) (states : List Shard) : Type 0 where
   pub long : length states ≡ length engine.locks
   pub each : (number : ℕ) (state : Shard) → slice_get states number ≡ Some state → (configs_of state.sessions ≡ configs_at engine number)
       × (state.journal ≡ entries_by 0 (history_of (length engine.locks) number (filter_map session_event hs)))
 
--- no shard refuses the only caller an event but when out of memory
+-- a shard refuses the only caller an event only when out of memory
 abbrev pub IsMeant : Stop → Type 0
 IsMeant (Refused Memory) = Unit {0}
 IsMeant (Refused (Full at n)) = ⊥

@@ -1,4 +1,4 @@
--- What caller 0 has seen of an engine's shards if it is the only one, and what its events gave.
+-- What caller 0 has seen of an engine's shards if it is the only one, and the outcomes of its events.
 use Rattle.std.specs.Prelude.{ℕ, ◌≡◌, ◌≤◌, ◌<◌, ◌+◌, ◌++◌, List, [], length, slice_index_or}
 use Rattle.std.specs.List.{cons_option}
 use Rattle.bfd_sbfd.specs.declared.reflecting.Reflector.{Reflector}
@@ -24,8 +24,8 @@ use Rattle.bfd_replay.specs.Working.{IsSole, entries_by}
 abbrev pub AllSole : ℕ → Knows → Type 0
 AllSole n k = (r : ℕ) → r < n → IsSole 0 (seen_at k r)
 
--- on a shard k became l: it has seen what it had, and more behind it; if all entries there are caller 0's, they were, and those of
--- these events were added
+-- on a shard k became l: it has seen what it had, and perhaps more after it. If all entries there are caller 0's, so were those
+-- before, and the entries of these events were added
 pub record Went (k l : Knows) (new : List ShardEvent) (r : ℕ) : Type 0 where
   pub begins : Begins (seen_at k r) (seen_at l r)
   pub sole : IsSole 0 (seen_at l r) → IsSole 0 (seen_at k r)
@@ -42,8 +42,8 @@ pub record HasKept (times : ℕ) (k l : Knows) : Type 0 where
 abbrev pub brought : ℕ → Happening → ℕ → List ShardEvent
 brought n h r = cons_option (in_shard n r h) []
 
--- why an event couldn't be carried out: out of memory; with a shard's journal at its limit, to which this caller had added nothing;
--- or with a lock's last word
+-- why an event couldn't be carried out: out of memory; a shard's journal is at its limit, and this caller added nothing to it; or
+-- a lock's last word was met
 abbrev pub IsRefusal : EngineFault → Shards → Knows → Knows → Type 0
 IsRefusal Memory engine k l = Unit {0}
 IsRefusal (Full at n) engine k l = (at < length engine.locks) × (length (seen_at l at) ≡ engine.limit) × Went k l [] at
@@ -55,7 +55,7 @@ IsCutShort Memory engine l = Unit {0}
 IsCutShort (Full at n) engine l = AllSole (length engine.locks) l → ⊥
 IsCutShort (Spent at word) engine l = (r : ℕ) × (r < length engine.locks) × (met_word l r ≡ last_word)
 
--- an engine of these sessions and reflectors, on so many shards, whose journals take so many entries
+-- an engine of these sessions and reflectors, on so many shards, whose journals accept so many entries
 pub record IsOpenedFor (engine : Shards) (configs : List SessionConfig) (pool : List Reflector) (shards limit : ℕ) : Type 0 where
   pub shards_are : length engine.locks ≡ shards
   pub configs_are : engine.configs ≡ configs
@@ -66,7 +66,7 @@ pub record IsOpenedFor (engine : Shards) (configs : List SessionConfig) (pool : 
 abbrev pub HasSeen : Shards → List ShardEvent → Knows → Type 0
 HasSeen engine past k = (r : ℕ) → r < length engine.locks → seen_at k r ≡ entries_by 0 (history_of (length engine.locks) r past)
 
--- what an event gives: one of no session its own outcome, and one of the sessions what they give, of these and this last tick
+-- the outcome of an event: its own if no session has it, else that of these sessions at this last tick
 abbrev pub outcome_in : ℕ → Happening → List Running → Outcome
 outcome_in last (Apart outcome) sessions = outcome
 outcome_in last (Among event) sessions = outcome_of last event sessions
@@ -77,13 +77,13 @@ IsOfOne n (Apart outcome) = Unit {0}
 IsOfOne n (Among (Own place moment event)) = Unit {0}
 IsOfOne n (Among (Tick t)) = n ≡ 1
 
--- such an event gave this, if caller 0 is the only one
+-- such an event had this outcome, if caller 0 is the only one
 abbrev pub Gave : Shards → Knows → Knows → Happening → Outcome → Type 0
 Gave engine k l h outcome = IsOfOne (length engine.locks) h → AllSole (length engine.locks) l → (past : List ShardEvent)
     → HasSeen engine past k
     → outcome ≡ outcome_in (last_tick past) h (runs past engine.configs)
 
--- what the shards before a place tell of a tick of this number, each if caller 0 is its only one
+-- what the shards before a place report of a tick of this number, each if caller 0 is its only one
 abbrev pub HaveToldTick : Shards → ℕ → ℕ → ℕ → Knows → Knows → List (List Piece) → Type 0
 HaveToldTick engine number t at k l parts = (r : ℕ) → r < at → IsSole 0 (seen_at l r)
     → slice_index_or parts r [] ≡ event_pieces number (Tick t) (given_after (configs_at engine r) (seen_at k r) (Tick t))

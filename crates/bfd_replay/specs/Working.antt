@@ -1,4 +1,4 @@
--- What a worker does on a shard, and what of it stands once nobody else's entry turns out to be there.
+-- What a worker does on a shard, and what holds of it if no other caller has an entry there.
 use Rattle.std.specs.Prelude.{ℕ, Bool, true, false, ◌≡◌, ◌≢◌, ◌≤◌, ◌<◌, ◌++◌, List, [], ◌∷◌, length, map, slice_index_or}
 use Rattle.std.specs.List.{AllByRecursion}
 use Rattle.bfd_session.specs.Step.{started}
@@ -17,7 +17,7 @@ use Rattle.bfd_replay.specs.declared.report.queue.Numbered.{Numbered}
 use Rattle.bfd_replay.specs.Pieces.{Piece, event_pieces}
 use Rattle.bfd_replay.specs.Happenings.{shard_tells}
 
--- the entries of these events, where this caller brought them all
+-- the entries of these events, all brought by this caller
 abbrev pub entries_by : ℕ → List ShardEvent → List Entry
 entries_by caller events = map (entry_of caller) events
 
@@ -33,16 +33,16 @@ AreMet engine shard queue = AllByRecursion (λ e. CanHappen (configs_at engine s
 abbrev pub IsSole : ℕ → List Entry → Type 0
 IsSole caller seen = AllByRecursion (λ entry. by entry ≡ caller) seen
 
--- a caller did the first events of a shard's queue, which it didn't know before: if it is the shard's only caller, then what it
--- has seen is their entries, and what it told is what they give
+-- a caller did the first events of a shard's queue, and had done nothing there before. If it is the shard's only caller, it has seen
+-- exactly their entries, and reported exactly their outcomes
 pub record HasDoneEvents (engine : Shards) (shard caller : ℕ) (done : List Numbered) (seen : List Entry) (taken : ℕ)
     (part : List Piece) : Type 0 where
   pub seen_is : IsSole caller seen → seen ≡ entries_by caller (events_in done)
   pub told_is : IsSole caller seen → part ≡ shard_tells 0 done (map started (configs_at engine shard))
   pub few : taken ≤ length done
 
--- why it stopped at an event of the queue: when out of memory; with a full journal, which can't be if it is the only caller; or with the
--- lock's last word
+-- why it stopped at an event of the queue: out of memory; a full journal, which has fewer entries than the queue if it is the only
+-- caller; or the lock's last word
 abbrev pub IsStop : EngineFault → ℕ → ℕ → ℕ → List Entry → ℕ → Type 0
 IsStop Memory limit caller most seen word = Unit {0}
 IsStop (Full at n) limit caller most seen word = (length seen ≡ limit) × (IsSole caller seen → length seen < most)
@@ -52,7 +52,7 @@ IsStop (Spent at last) limit caller most seen word = word ≡ last_word
 abbrev pub IsStopAt : EngineFault → Shards → ℕ → ℕ → Knows → Type 0
 IsStopAt fault engine shard most l = IsStop fault engine.limit l.0 most (seen_at l shard) (met_word l shard)
 
--- a turn of a shard, that it took with an event and told
+-- a turn of a shard, which it took with an event and reported
 pub record HasTold (engine : Shards) (shard : ℕ) (e : Numbered) (k l : Knows) (part part2 : List Piece) : Type 0 where
   pub between : List Entry
   pub others : calls by k.0 between ≡ []
@@ -78,7 +78,7 @@ pub record IsIdle (k : Knows) (shard : ℕ) : Type 0 where
   pub seen : seen_at k shard ≡ []
   pub taken : taken_at k shard ≡ 0
 
--- of a shard, when its worker has ended: at most as many turns as events, and nothing seen where it had none
+-- of a shard, when its worker has ended: at most as many turns as events, and nothing seen if it had none
 pub record HasUsedAt (l : Knows) (shard : ℕ) (queue : List Numbered) : Type 0 where
   pub few : taken_at l shard ≤ length queue
   pub none : queue ≡ [] → IsIdle l shard
@@ -86,7 +86,7 @@ pub record HasUsedAt (l : Knows) (shard : ℕ) (queue : List Numbered) : Type 0 
 abbrev pub HasDoneAt : Shards → ℕ → List Numbered → Knows → List Piece → Type 0
 HasDoneAt engine shard queue l part = HasDoneEvents engine shard l.0 queue (seen_at l shard) (taken_at l shard) part
 
--- what is asked of a worker's pass: it is of this engine, has seen nothing, and the worker's queues, one for each shard, hold
+-- what is required of a worker's pass: it is of this engine, has seen nothing, and the worker's queues, one for each shard, hold
 -- events that the shards' sessions may be given
 pub record IsWorkerReady (engine : Shards) (queues : List (List Numbered)) (k : Knows) : Type 0 where
   pub of : IsOf engine k.1

@@ -10,7 +10,7 @@ use Rattle.bfd_rules.specs.declared.outputs.Out.TheVariants.{Changed, Sent}
 use Rattle.bfd_rules.specs.Quantities.{tx_interval, may_send, same_state}
 use Rattle.bfd_rules.specs.Jitter.{pick}
 
--- outputs in order, the room that is left for more, and the room that there was at first
+-- outputs in order, the room that is left for more, and the room at first
 pub record Outputs : Type 0 where
   pub items : List Out
   pub spare : ℕ
@@ -35,7 +35,7 @@ abbrev pub begins : Vars → Mark
 begins v =
     record { state = v.state; diag = v.diag; interval = tx_interval v; one = v.mult == 1; moved = false; answered = false }
 
--- a change of the session's state is told
+-- a change of the session's state is reported
 abbrev pub told : ℕ → Vars → Vars → List Out
 told discr before after =
     if same_state before.state after.state then [] else Changed discr before.state after.state after.diag ∷ []
@@ -44,7 +44,7 @@ told discr before after =
 abbrev pub enters : State → ℕ → Vars → Vars
 enters state diag v = record v { state = state; diag = diag }
 
--- the variables become v, and a change of the state is told
+-- the variables become v, and a change of the state is reported
 unfoldable pub changes : ℕ → Vars → Course → Course
 changes discr v s = record s { vars = v; outs = s.outs ++ told discr s.vars v }
 
@@ -52,15 +52,15 @@ changes discr v s = record s { vars = v; outs = s.outs ++ told discr s.vars v }
 unfoldable pub sends : ℕ → Datagram → Course → Course
 sends discr datagram s = record s { outs = s.outs ++ Sent discr datagram ∷ [] }
 
--- the state or diagnostic isn't the one that the event began with, or that its periodic packet told
+-- the state or diagnostic isn't the one that the event began with, or that its periodic packet carried
 abbrev pub is_news : Mark → Vars → Bool
 is_news m v = not (same_state v.state m.state && (v.diag == m.diag))
 
--- the peer is told the present state and diagnostic by a periodic packet
+-- a periodic packet carries the present state and diagnostic to the peer, and moves the base
 abbrev pub tells : Vars → Mark → Mark
 tells v m = record m { moved = true; state = v.state; diag = v.diag }
 
--- news that the peer is still to be told: no packet with F has told it, and a packet may be sent (section 6.8.7)
+-- news that is still to be sent: no packet with F has carried it, and a packet may be sent (section 6.8.7)
 abbrev pub is_untold : Bool → Mark → Vars → Bool
 is_untold active m v = is_news m v && not m.answered && may_send active v
 
@@ -72,11 +72,11 @@ based eff s = record s { vars = record s.vars { base = eff }; mark = record s.ma
 abbrev pub one_changed : Mark → Vars → Bool
 one_changed m v = if m.one then not (v.mult == 1) else v.mult == 1
 
--- the due tick is drawn anew: a packet moved the base, there is none, or what it was drawn by has changed
+-- the due tick is drawn again: a packet moved the base, there is no due tick, or an input of the draw has changed
 abbrev pub draws : Mark → Vars → Bool
 draws m v = m.moved || is_none v.tx_due || not (tx_interval v == m.interval) || one_changed m v
 
--- at an event's end a due tick is there exactly while periodic packets may be sent (section 6.8.7)
+-- at an event's end a due tick is present if and only if periodic packets may be sent (section 6.8.7)
 unfoldable pub drawn : Bool → Mark → Vars → Vars
 drawn active m v =
     if may_send active v

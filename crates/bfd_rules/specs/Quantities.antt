@@ -61,7 +61,7 @@ demand_here v = v.demand && both_up v
 abbrev pub demand_there : Vars → Bool
 demand_there v = v.remote_demand && both_up v
 
--- periodic packets may be sent: the peer wants some; this side is active or knows the peer's discriminator; and
+-- periodic packets may be sent: the peer accepts some; this side is active or knows the peer's discriminator; and
 -- Demand mode isn't active on the remote system unless a Poll Sequence is on (sections 6.1, 6.6 and 6.8.7)
 abbrev pub may_send : Bool → Vars → Bool
 may_send active v =

@@ -1,5 +1,5 @@
--- The variables of a point-to-point session that can come up, in three stages (RFC 5880 section 6.8.1): what the
--- raw variables of a rule meet, what holds after each rule, and what holds between events.
+-- The variables that a point-to-point session can have, in three stages (RFC 5880 section 6.8.1): what the
+-- raw variables of a rule satisfy, what holds after each rule, and what holds between events.
 use Rattle.std.specs.Prelude.{◌≡◌, ◌≤◌, ◌<◌, ◌↔◌, ℕ, ◌==◌, nat_le, Bool, true, ◌&&◌, ◌||◌, Option, None, Some, IsTrue, IsSome, IfSome}
 use Rattle.std.specs.Prelude.{length, ◌^◌}
 use Rattle.bfd_packet.specs.declared.control.State.TheVariants.{Up}
@@ -38,9 +38,9 @@ pub record IsConfig (c : Config) : Type 0 where
   pub most_mult : c.mult < 256
   pub echo_range : IsTrue (is_echo_interval c.role c.echo)
 
--- what the raw variables of a rule meet: configured values in their ranges, a diagnostic of 5 bits, an interval in use of
--- 10,000 at least, 32 bits of the peer's interval and 8 of its Detect Mult, moments below 2^60, in Up a packet that was
--- heard, and a key to send with
+-- what the raw variables of a rule satisfy: configured values are in their ranges, the diagnostic has 5 bits, and the
+-- interval in use is at least 10,000. The peer's interval has 32 bits and its Detect Mult 8, and moments are below 2^60.
+-- In Up a packet was heard. There is a key to send with
 pub record IsPlain (c : Config) (v : Vars) : Type 0 where
   pub tx_least : 10000 ≤ v.tx
   pub tx_most : v.tx ≤ 60000000
@@ -70,7 +70,7 @@ pub record IsRenewed (v : Vars) : Type 0 where
   pub settled_rx : is_idle v.poll ≡ true → v.used_rx ≡ v.rx
   pub rx_at_least : v.rx ≤ v.used_rx
 
--- where a packet was heard, the peer's Detect Mult is known
+-- when a packet or a sequence number was heard, the peer's Detect Mult is known
 pub record HasPeerMult (v : Vars) : Type 0 where
   pub heard_mult : IsSome v.heard → 0 < v.remote_mult
   pub seq_mult : IsSome v.seq_heard → 0 < v.remote_mult
@@ -81,7 +81,7 @@ pub record IsSteady (c : Config) (v : Vars) : Type 0 where
   pub renewed : IsRenewed v
   pub peer : HasPeerMult v
 
--- what holds between events: a due tick is there exactly while periodic packets may be sent
+-- what holds between events: a due tick is present if and only if periodic packets may be sent
 pub record IsSound (c : Config) (v : Vars) : Type 0 where
   pub steady : IsSteady c v
   pub due : IsSome v.tx_due ↔ IsTrue (may_send c.active v)

@@ -12,7 +12,7 @@ use Rattle.bfd_rules.specs.Sound.{is_interval}
 use Rattle.bfd_sbfd.specs.declared.config.SeekConfig.{SeekConfig}
 use Rattle.bfd_sbfd.specs.Frame.{moves}
 
--- an initiator knows four commands: it asks for no packets, and has no path, Demand mode, Echo or key to be told of
+-- an initiator knows four commands: it has no Required Min RX, path, Demand mode, Echo function or key to set
 abbrev pub is_wrong_kind : Cmd → Bool
 is_wrong_kind Disable = false
 is_wrong_kind Enable = false
@@ -43,7 +43,7 @@ is_refused_by v cmd _ = false
 abbrev pub refusal : Vars → Cmd → Option Refusal
 refusal v cmd = find (is_refused_by v cmd) (WrongKind ∷ OutOfRange ∷ WrongState ∷ [])
 
--- what each command makes of the variables (RFC 5880 sections 6.8.16, 6.8.11 and 6.8.12)
+-- the variables after each command (RFC 5880 sections 6.8.16, 6.8.11 and 6.8.12)
 abbrev pub done : Cmd → Vars → Vars
 done Disable v = enters AdminDown 7 v
 done Enable v = enters Down v.diag v

@@ -8,6 +8,6 @@ use Rattle.bfd_rules.specs.EventFrame.{Course, changes}
 abbrev pub in_use : Vars → Vars
 in_use v = record v { used_tx = adv_tx v }
 
--- the rule makes v of the variables, and a new state is told
+-- the rule changes the variables to v, and a new state is reported
 unfoldable pub moves : ℕ → Vars → Course → Course
 moves discr v s = changes discr (in_use v) s

@@ -22,14 +22,15 @@ pub record IsStill (limit : ℕ) (m : Mark) (v : Vars) : Type 0 where
   pub interval_kept : tx_interval v ≡ m.interval
   pub one_kept : one_changed m v ≡ false
 
--- an event with this limit begins: sound variables, and the mark that was made of them
+-- an event with this limit begins: sound variables, and their mark
 pub record IsBegun (c : SeekConfig) (limit eff : ℕ) (m : Mark) (v : Vars) : Type 0 where
   pub reached : limit ≤ eff
   pub sound : IsSeekSound c v
   pub made : m ≡ begins v
 
--- what settling leaves for the end of the event: no deadline has come; and either a packet moved the base to this moment,
--- or the due tick stands as it was drawn, unless there is news to tell
+-- what settling leaves for the end of the event: no deadline has come, and no packet with F was sent. A packet that moved the
+-- base moved it to this moment. The due tick stands as it was drawn if no packet moved the base, there is no news, and packets
+-- may be sent
 pub record IsSettled (limit eff : ℕ) (m : Mark) (v : Vars) : Type 0 where
   pub late : has_come limit (deadline v) ≡ false
   pub unanswered : m.answered ≡ false

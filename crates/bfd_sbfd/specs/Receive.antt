@@ -25,11 +25,11 @@ machine Down Up v = enters Up v.diag v
 machine Up AdminDown v = enters Down 3 v
 machine _ _ v = v
 
--- 2. The state machine takes the received state
+-- 2. The state machine receives the reflector's state
 unfoldable pub moves_state : SeekConfig → Control → Course → Course
 moves_state c packet s = moves c.discr (machine s.vars.state packet.state s.vars) s
 
--- in AdminDown nothing is done but the keeping; P is never answered
+-- in AdminDown the fields are kept and nothing more is done; P is never answered
 unfoldable pub accepted : SeekConfig → ℕ → Control → Course → Course
 accepted c eff packet s =
     let t : Course = keeps_fields eff packet s in

@@ -34,12 +34,12 @@ fails pool payload test = header_fails test payload
 abbrev pub tests : List Test
 tests = header_tests Sbfd ++ YourUnknown ∷ AuthUnexpected ∷ NotDemand ∷ []
 
--- a reflector is Up unless it was told AdminDown (RFC 7880 section 7.2.3)
+-- a reflector is Up unless it was set to AdminDown (RFC 7880 section 7.2.3)
 abbrev pub reflector_state : Reflector → State
 reflector_state reflector = if reflector.up then Up else AdminDown
 
--- the fields of its answer: the received discriminators swapped, Detect Mult and Desired Min TX as they came, F where P
--- came, and what the reflector can take (RFC 7880 section 7.2.2)
+-- the fields of its answer: the received discriminators swapped, Detect Mult and Desired Min TX as they came, F if P was
+-- set, and the reflector's own Required Min RX (RFC 7880 section 7.2.2)
 abbrev pub reflected_fields : Reflector → Control → Control
 reflected_fields reflector packet = record {
   diag = 0;
@@ -74,7 +74,7 @@ datagram_back arrival bytes = record {
 abbrev pub answered : Reflector → Arrival → Datagram
 answered reflector arrival = datagram_back arrival (text_of (reflected_fields reflector (fields_of arrival.payload)) [])
 
--- the first test that fails, or the answer of the reflector that is named; where no test fails one is
+-- the first test that fails, or the answer of the reflector that is named; when no test fails, one is named
 abbrev pub answer_unless : Option Test → Option Reflector → Arrival → Result Datagram Test
 answer_unless (Some test) reflector arrival = Err test
 answer_unless None None arrival = Err YourUnknown

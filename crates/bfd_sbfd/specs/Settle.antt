@@ -20,7 +20,7 @@ silenced v = enters Down 1 (record v { heard = None })
 unfoldable pub detection : SeekConfig → ℕ → Course → Course
 detection c limit s = if has_come limit (deadline s.vars) then moves c.discr (silenced s.vars) s else s
 
--- a periodic packet moves the base, and tells the present state and diagnostic
+-- a periodic packet moves the base, and carries the present state and diagnostic
 unfoldable pub periodic_packet : SeekConfig → ℕ → Course → Course
 periodic_packet c eff s =
     let sent : Course = transmits c s in

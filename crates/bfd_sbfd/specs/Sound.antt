@@ -1,4 +1,4 @@
--- The configurations of an initiator, and the variables that can come up in one (RFC 7880 section 6.2, RFC 5880 section
+-- The configurations of an initiator, and the variables that it can have (RFC 7880 section 6.2, RFC 5880 section
 -- 6.8.1): what holds after each rule, and what holds between events.
 use Rattle.std.specs.Prelude.{◌≡◌, ◌≤◌, ◌<◌, ◌↔◌, ◌^◌, Bool, true, false, None, IsTrue, IsSome, IfSome}
 use Rattle.bfd_packet.specs.declared.control.State.{State}
@@ -26,7 +26,7 @@ is_seek_state Down = true
 is_seek_state Init = false
 is_seek_state Up = true
 
--- what an initiator leaves as it was at the start: the discriminator that it seeks, and what it has no use for
+-- what an initiator leaves as it was at the start: the discriminator that it seeks, and what it doesn't use
 pub record IsFixed (c : SeekConfig) (v : Vars) : Type 0 where
   pub target : v.remote_discr ≡ c.target
   pub rx : v.rx ≡ 0
@@ -42,8 +42,8 @@ pub record IsFixed (c : SeekConfig) (v : Vars) : Type 0 where
   pub sending : v.sending ≡ 0
   pub left : v.left ≡ 0
 
--- what holds of its variables but for the interval in use: configured values in their ranges, a diagnostic of 5 bits, 32
--- bits of the reflector's interval, moments below 2^60, and in Up an answer that was heard
+-- what holds of its variables except the interval in use: configured values are in their ranges, the diagnostic has 5 bits,
+-- the reflector's interval has 32, and moments are below 2^60. In Up an answer was heard
 pub record IsSeekPlain (c : SeekConfig) (v : Vars) : Type 0 where
   pub states : IsTrue (is_seek_state v.state)
   pub tx_least : 10000 ≤ v.tx
@@ -64,7 +64,7 @@ pub record IsSeekSteady (c : SeekConfig) (v : Vars) : Type 0 where
   pub plain : IsSeekPlain c v
   pub in_use : v.used_tx ≡ adv_tx v
 
--- what holds between events: a due tick is there exactly while periodic packets may be sent; an initiator is active
+-- what holds between events: a due tick is present if and only if periodic packets may be sent; an initiator is active
 pub record IsSeekSound (c : SeekConfig) (v : Vars) : Type 0 where
   pub steady : IsSeekSteady c v
   pub due : IsSome v.tx_due ↔ IsTrue (may_send true v)

@@ -8,7 +8,7 @@ use Rattle.bfd_rules.specs.Quantities.{adv_tx}
 use Rattle.bfd_rules.specs.EventFrame.{Course, sends}
 use Rattle.bfd_sbfd.specs.declared.config.SeekConfig.{SeekConfig}
 
--- its fields: D tells a reflector that the packet is for it, Your Discriminator is the one that is sought, and a Required
+-- its fields: D marks the packet as one for a reflector, and Your Discriminator is the one that is sought. A Required
 -- Min RX Interval of 0 asks for no packets but answers
 abbrev pub packet_of : SeekConfig → Vars → Control
 packet_of c v = record {

@@ -1,4 +1,4 @@
--- How a fault is told.
+-- The text that reports a fault.
 use Rattle.std.specs.Prelude.{ℕ, List, ◌∷◌, ◌++◌, codes}
 use Rattle.std.specs.Fmt.{decimal}
 use Rattle.bfd_script.specs.declared.fields.fault.LineFault.{LineFault}

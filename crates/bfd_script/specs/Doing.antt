@@ -1,4 +1,4 @@
--- What an event line comes to, of the configurations and the pool alone: no variable of a session has a part in it.
+-- What an event line resolves to by the configurations and the pool alone, whatever the variables of the sessions are.
 use Rattle.std.specs.Prelude.{ℕ, Option, None, Some, List}
 use Rattle.bfd_packet.specs.declared.arrival.Arrival.{Arrival}
 use Rattle.bfd_rules.specs.declared.commands.Refusal.TheVariants.{UnknownSession}
@@ -13,8 +13,8 @@ use Rattle.bfd_session.specs.Rows.{table_of, place_of}
 use Rattle.bfd_script.specs.declared.line.entries.Line.{Line}
 use Rattle.bfd_script.specs.declared.line.entries.Line.TheVariants.{Rx, Tick, Cmd, Show}
 
--- an event of no session, which has this answer; an arrival that the reflector at this place of the pool answers; an own event
--- of the session at this place, at this moment; a tick of every session
+-- an event of no session, which has this answer; an arrival for the reflector at this place of the pool; an own event of the
+-- session at this place, at this moment; or a tick of every session
 pub data Doing : Type 0 where
   Rests : Answer → Doing
   Reflects : ℕ → Arrival → Doing
@@ -27,12 +27,12 @@ arriving moment arrival (Discarded test) = Rests (Dropped test)
 arriving moment arrival (Reflected place) = Reflects place arrival
 arriving moment arrival (Own place event) = Happens place moment event
 
--- what a command or a question at this moment does: without a session that it names the answer says so
+-- what a command or a question at this moment does: if it names no session, the answer says so
 abbrev pub asking : ℕ → Event → Option ℕ → Doing
 asking moment event None = Rests (Refused UnknownSession)
 asking moment event (Some place) = Happens place moment event
 
--- what an event line comes to
+-- what an event line resolves to
 abbrev pub doing : List SessionConfig → List Reflector → Line → Doing
 doing configs pool (Rx moment arrival) = arriving moment arrival (comes_to (table_of configs pool) arrival)
 doing configs pool (Tick t) = Passes t

@@ -21,7 +21,7 @@ lines_of (byte ∷ bytes) = if byte == 10 then [] ∷ lines_of bytes else onto_l
 abbrev pub is_printable : ℕ → Bool
 is_printable byte = nat_le 32 byte && nat_le byte 126
 
--- a line that may be looked at: it isn't too long, and has printable bytes alone
+-- a line that can be read: it isn't too long, and all its bytes are printable
 abbrev pub line_text : List ℕ → Result (List ℕ) LineFault
 line_text line =
     if nat_lt 4096 (length line) then Err TooLong

@@ -49,7 +49,7 @@ pub record State : Type 0 where
 abbrev pub start : State
 start = record { version = One; place = places.Version; configs = []; pool = []; events = [] }
 
--- the session that an event names is there; a packet and a tick name none
+-- the session that an event names is present; a packet and a tick name none
 abbrev pub is_named : Line → List SessionConfig → Bool
 is_named (events.Cmd moment discr cmd) configs = has_discr discr configs
 is_named (events.Show moment discr) configs = has_discr discr configs
@@ -78,14 +78,14 @@ with_reflector reflector s =
     else if is_full s then Err TooMany
     else Ok (record s { pool = pooled reflector s.pool })
 
--- keys for a point-to-point session: it has none yet, and is there
+-- keys for a point-to-point session: it is present, and has none yet
 abbrev pub with_keys : ℕ → KeyChain → State → Result State LineFault
 with_keys discr keys s =
     if has_keys discr s.configs then Err SameDiscr
     else if not (has_pair discr s.configs) then Err NoSuchSession
     else Ok (record s { configs = given discr keys s.configs })
 
--- a refusal, where there is one
+-- a refusal, if there is one
 abbrev pub unless : Option LineFault → State → Result State LineFault
 unless None s = Ok s
 unless (Some fault) s = Err fault
@@ -94,14 +94,14 @@ unless (Some fault) s = Err fault
 abbrev pub with_key : ℕ → Key → State → Result State LineFault
 with_key discr key s = unless (key_fault (keys_of discr s.configs) key) (record s { configs = given_more discr key s.configs })
 
--- one more event line: the session that it names is there, and there are at most 200,000
+-- one more event line: the session that it names is present, and there are at most 200,000
 abbrev pub with_event : Line → State → Result State LineFault
 with_event event s =
     if not (is_named event s.configs) then Err NoSuchSession
     else if nat_le 200000 (length s.events) then Err TooMany
     else Ok (record s { events = s.events ++ event ∷ [] })
 
--- a line is taken after those before it, or has a fault because of them
+-- a line is accepted after those before it, or has a fault because of them
 abbrev pub admitted : Entry → State → Result State LineFault
 admitted (entries.Version version) s = Ok (record s { version = version; place = places.Table })
 admitted entries.Run s = Ok (record s { place = places.Events })
@@ -116,7 +116,7 @@ admitted entries.End s = Ok (record s { place = places.Over })
 abbrev pub line_read : Bool → State → List ℕ → Result State LineFault
 line_read live s line = entry_in_line s.version s.place live line >>= λ entry. admitted entry s
 
--- the text ended with this place, where the next line would have had this number
+-- the text ended with this place; the next line would have had this number
 abbrev pub finished_at : Place → ℕ → Lists → Result Lists BadLine
 finished_at places.Over number script = Ok script
 finished_at place number script = Err (record { line = number; fault = MissingEnd })
@@ -135,7 +135,7 @@ abbrev pub told_from : Bool → State → ℕ → List (List ℕ) → Result Lis
 told_from live s number [] = text_ended number s
 told_from live s number (line ∷ lines) = go_on number (line_read live s line) (λ next. told_from live next (number + 1) lines)
 
--- the script that a text spells, or its first faulty line with that line's first fault; in a live script packets and
--- ticks come from outside, and their lines may not stand
+-- the script that a text spells, or its first faulty line with that line's first fault. In a live script packets and
+-- ticks come from outside, and their lines aren't allowed
 abbrev pub script_of : Bool → List ℕ → Result Lists BadLine
 script_of live bytes = told_from live start 1 (lines_of bytes)

@@ -1,4 +1,4 @@
--- The report: what a run tells of its events, as text.
+-- The report: what a run reports of its events, as text.
 use Rattle.std.specs.Prelude.{ℕ, ◌+◌, List, [], ◌∷◌, ◌++◌, length, sum_by, codes}
 use Rattle.std.specs.List.{flat_map}
 use Rattle.std.specs.Fmt.{decimal}
@@ -40,7 +40,7 @@ abbrev pub lines_from : ℕ → List Outcome → List ℕ
 lines_from number [] = []
 lines_from number (outcome ∷ outcomes) = event_lines number outcome ++ lines_from (number + 1) outcomes
 
--- how many packets an output tells of
+-- how many packets an output sends
 abbrev pub packets_sent_by : Out → ℕ
 packets_sent_by (Changed discr before after diag) = 0
 packets_sent_by (Sent discr datagram) = 1
@@ -62,6 +62,6 @@ dropped outcome = dropped_by outcome.answer
 abbrev pub done_line : ℕ → ℕ → ℕ → List ℕ
 done_line events txs drops = line (codes "done" ∷ decimal events ∷ decimal txs ∷ decimal drops ∷ [])
 
--- the report of a run whose events gave this, one after another
+-- the report of a run whose events have these outcomes, one after another
 abbrev pub report : List Outcome → List ℕ
 report outcomes = lines_from 1 outcomes ++ done_line (length outcomes) (sum_by packets_sent outcomes) (sum_by dropped outcomes)

@@ -65,7 +65,7 @@ inserted config configs = insert_by discr_of config configs
 abbrev pub by_discr : List SessionConfig → List (ℕ × SessionConfig)
 by_discr configs = by_number discr_of configs
 
--- ---- keys, which a point-to-point session alone may have
+-- ---- keys, which only a point-to-point session may have
 
 -- a session that may have keys
 abbrev pub is_pair : Option SessionConfig → Bool
@@ -94,7 +94,7 @@ abbrev pub changed : ℕ → (SessionConfig → SessionConfig) → List SessionC
 changed discr f [] = []
 changed discr f (c ∷ configs) = if discr == discr_of c then f c ∷ configs else c ∷ changed discr f configs
 
--- a session with these keys, where it may have some
+-- a session with these keys, if it may have some
 abbrev pub keyed_with : KeyChain → SessionConfig → SessionConfig
 keyed_with keys (Pair c) = Pair (record c { keys = Some keys })
 keyed_with keys config = config
@@ -103,12 +103,12 @@ keyed_with keys config = config
 abbrev pub given : ℕ → KeyChain → List SessionConfig → List SessionConfig
 given discr keys configs = changed discr (keyed_with keys) configs
 
--- one more key behind these, where there are some
+-- one more key behind these, if there are some
 abbrev pub one_more : Key → Option KeyChain → Option KeyChain
 one_more key None = None
 one_more key (Some keys) = Some (record keys { list = keys.list ++ key ∷ [] })
 
--- a session with one more key, where it has some
+-- a session with one more key, if it has some
 abbrev pub keyed_more : Key → SessionConfig → SessionConfig
 keyed_more key (Pair c) = Pair (record c { keys = one_more key c.keys })
 keyed_more key config = config

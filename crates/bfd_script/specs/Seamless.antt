@@ -33,7 +33,7 @@ abbrev pub sbfd_row : List (List ℕ) → Result SessionConfig LineFault
 sbfd_row (discr ∷ target ∷ rest) = seek_with discr target rest
 sbfd_row values = Err FieldCount
 
--- whether the reflector is Up, or told to say AdminDown (RFC 7880 section 7.2.3)
+-- whether the reflector is Up or set to AdminDown (RFC 7880 section 7.2.3)
 abbrev pub up_of : List ℕ → Result Bool LineFault
 up_of field =
     if bytes_eq field (codes "up") then Ok true

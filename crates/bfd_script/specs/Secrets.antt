@@ -23,7 +23,7 @@ kind_by n =
 abbrev pub auth_type_of : List ℕ → Result AuthType LineFault
 auth_type_of field = number_in 1 5 field >>= λ n. Ok (kind_by n)
 
--- bytes that are a secret: as many as the type has room for, and one at least
+-- bytes that are a secret: at least one, and at most as many as the type allows
 abbrev pub fitting : AuthType → List ℕ → Result (List ℕ) LineFault
 fitting kind bytes = if fits_kind kind bytes then Ok bytes else Err OutOfRange
 
@@ -43,15 +43,15 @@ chain_of kind id secret = do
   secret ← secret_of kind secret
   Ok (one_key kind id secret)
 
--- the last two values of a `key` line; the secret has room in some type, and the table tells in which it has to have
+-- the last two values of a `key` line; the secret fits some type, and the table checks that it fits the session's
 unfoldable pub key_of : List ℕ → List ℕ → Result Key LineFault
 key_of id secret = do
   id ← number_in 0 255 id
   secret ← secret_of KeyedSha1 secret
   Ok (record { id = id; secret = secret })
 
--- what is wrong with one more key for a session with these keys: its secret has no room, there are none, its number is
--- taken, or there are four; a session without keys has room for 16 bytes
+-- the fault of one more key for a session with these keys: its secret doesn't fit, there are none, its number is taken, or
+-- there are four; for a session without keys, 1 to 16 bytes fit
 abbrev pub key_fault : Option KeyChain → Key → Option LineFault
 key_fault None key = if fits_kind Password key.secret then Some NoSuchSession else Some OutOfRange
 key_fault (Some keys) key =

@@ -1,4 +1,4 @@
--- What is true of each script that the grammar gives.
+-- What is true of each script that the grammar accepts.
 use Rattle.std.specs.Prelude.{◌≡◌, ◌≤◌, ◌+◌, true, false, List, length}
 use Rattle.std.specs.List.{AllByRecursion}
 use Rattle.bfd_session.specs.Rows.{Ascends, AreFit, Differs}
@@ -28,7 +28,7 @@ pub record ArePool (reflectors : List Reflector) : Type 0 where
 abbrev pub AreApart : List SessionConfig → List Reflector → Type 0
 AreApart configs reflectors = AllByRecursion (λ r. has_discr r.discr configs ≡ false) reflectors
 
--- events: at most 200,000
+-- events: each as its line gives it, and at most 200,000
 pub record AreEvents (events : List Line) : Type 0 where
   pub lines : AllByRecursion IsEvent events
   pub few : length events ≤ 200000
@@ -37,7 +37,7 @@ pub record AreEvents (events : List Line) : Type 0 where
 abbrev pub AreNamed : List SessionConfig → List Line → Type 0
 AreNamed configs events = AllByRecursion (λ e. is_named e configs ≡ true) events
 
--- a script that the grammar gives; sessions and reflectors together are at most 65,536
+-- a script that the grammar accepts; sessions and reflectors together are at most 65,536
 pub record IsScript (script : Lists) : Type 0 where
   pub configs : AreConfigs script.configs
   pub pool : ArePool script.pool

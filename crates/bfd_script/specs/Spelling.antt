@@ -12,7 +12,7 @@ spaced (field ∷ next ∷ fields) end = field ++ (32 ∷ spaced (next ∷ field
 abbrev pub line : List (List ℕ) → List ℕ
 line fields = spaced fields (10 ∷ [])
 
--- bytes as hexadecimal digits in lower case, and `-` where there are none
+-- bytes as hexadecimal digits in lower case, or `-` if there are none
 abbrev pub hex_field : List ℕ → List ℕ
 hex_field [] = codes "-"
 hex_field (byte ∷ bytes) = encode_lower (byte ∷ bytes)

@@ -37,7 +37,7 @@ pub record IsPool (entries : List (ℕ × Reflector)) : Type 0 where
   pub keyed : entries ≡ pool_by_discr (values_of entries)
   pub reflectors : ArePool (values_of entries)
 
--- what is kept from line to line: what a script of it would have, apart from what the sessions and the reflectors have by themselves
+-- what holds from line to line: all that a script of these requires, except what the sessions and the reflectors each require alone
 pub record IsReading (configs : List SessionConfig) (reflectors : List Reflector) (lines : List Line) : Type 0 where
   pub apart : AreApart configs reflectors
   pub few : length configs + length reflectors ≤ 65536

@@ -32,7 +32,7 @@ takes_number Enable = false
 takes_number Reset = false
 takes_number verb = true
 
--- a line with a number, or without, has as many fields as its verb asks for; a verb that isn't known asks for neither
+-- a line with a number, or without, has as many fields as its verb requires; an unknown verb allows both
 abbrev pub fits : Option Verb → Bool → Bool
 fits None numbered = true
 fits (Some verb) numbered = if numbered then takes_number verb else not (takes_number verb)
@@ -42,7 +42,7 @@ abbrev pub known_verb : Option Verb → Result Verb LineFault
 known_verb None = Err UnknownWord
 known_verb (Some verb) = Ok verb
 
--- the command of a verb, with its number where it has one
+-- the command of a verb, with its number if it has one
 abbrev pub command : Verb → ℕ → Cmd
 command Disable n = commands.Disable
 command Enable n = commands.Enable
@@ -55,7 +55,7 @@ command Demand n = commands.Demand n
 command Echo n = commands.EchoEvery n
 command Key n = commands.Key n
 
--- the number of a command, 0 where it has none
+-- the number of a command, 0 if it has none
 abbrev pub command_number : Cmd → ℕ
 command_number commands.Disable = 0
 command_number commands.Enable = 0

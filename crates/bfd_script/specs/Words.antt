@@ -33,7 +33,7 @@ word_of version field =
     else if bytes_eq field (codes "key") && is_second version then Some Key
     else None
 
--- the place of each word: the version first, then the table and `run`, then events and `end`, then nothing
+-- the place of each word: the version first, then the table and `run`, then events and `end`; a live script has no `rx` or `tick`
 abbrev pub stands : Place → Bool → Word → Bool
 stands Version live Bfd = true
 stands Table live P2p = true

@@ -15,7 +15,7 @@ use Rattle.bfd_engine.specs.Calls.{Act, Turns, Rests, arrival_act}
 abbrev pub Call : Type 0
 Call = ℕ × ShardEvent
 
--- an act that takes a turn is a call
+-- an act with a turn is a call
 abbrev pub call_in : Act → Option Call
 call_in (Turns shard event) = Some (shard, event)
 call_in (Rests outs answer) = None
@@ -31,11 +31,11 @@ on_shard caller shard call = if call.0 == shard then Some (entry_of caller call.
 abbrev pub entries : ℕ → ℕ → List Call → List Entry
 entries caller shard calls = filter_map (on_shard caller shard) calls
 
--- what an arrival comes to that came at a moment
+-- what an arrival, with its moment, resolves to
 abbrev pub act_at : Shards → ℕ × Arrival → Act
 act_at engine heard = arrival_act engine heard.0 heard.1
 
--- what a worker has to do: what each arrival comes to
+-- what a worker has to do: what each arrival resolves to
 abbrev pub worker_acts : Shards → List (ℕ × Arrival) → List Act
 worker_acts engine heard = map (act_at engine) heard
 
@@ -48,7 +48,7 @@ datagram_in (Changed discr old new diag) = None
 abbrev pub datagrams : List Out → List Datagram
 datagrams outs = filter_map datagram_in outs
 
--- the history before the entry of a caller before which there are so many others of it
+-- the history before the entry of a caller that comes after so many others of that caller
 abbrev pub until : ℕ → ℕ → List Entry → List Entry
 until caller count [] = []
 until caller count (entry ∷ history) =
@@ -56,8 +56,8 @@ until caller count (entry ∷ history) =
     then (if count == 0 then [] else entry ∷ until caller (count - 1) history)
     else entry ∷ until caller count history
 
--- what an act puts out, where the shards have these histories: a call what its event gives after the entries before it. The
--- caller had so many entries on each shard before, and has made these calls since
+-- what an act emits, when the shards have these histories: a call emits the outputs of its event after the entries before it.
+-- The caller had so many entries on each shard before, and has made these calls since
 abbrev pub given_by : Shards → ℕ → (ℕ → List Entry) → (ℕ → ℕ) → List Call → Act → List Out
 given_by engine caller histories had before (Rests outs answer) = outs
 given_by engine caller histories had before (Turns shard event) =

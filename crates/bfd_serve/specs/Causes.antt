@@ -20,7 +20,7 @@ use Rattle.bfd_serve.specs.Runs.{HaveRun, all_on}
 module _ (engine : Shards) (histories : ℕ → List Entry) (orders : List Line) (workers : ℕ) (limits : Limits) (before after : ℕ → LinkTold)
     (c d : TickerTold) (ends : List End) (lost : ℕ)
     (run : HaveRun engine histories orders workers limits before after c d ends lost) where
-  -- every link of a worker and the ticker ended, or it gave its limit of ticks, and no call of any caller is left out
+  -- every link of a worker ended, the ticker ended or gave its limit of ticks, and no call of any caller is left out
   pub record IsRunDone : Type 0 where
     pub links : (number : ℕ) → 0 < number → number ≤ workers → ((after number).counts.over ≡ true)
         × ((after number).counts.receive_faults ≡ 0)
@@ -49,18 +49,18 @@ module _ (engine : Shards) (histories : ℕ → List Entry) (orders : List Line)
   LacksAt zero shard = StartsOn shard run.timer.did.cut
   LacksAt (suc at) shard = (less : at < workers) × StartsOn shard (worker_acts engine (run.each at less).did.cut)
 
-  -- the acts of the worker of the link at this place: what every arrival that the link gave comes to
+  -- the acts of the worker of the link at this place: what every arrival that the link gave resolves to
   abbrev pub IsAll : ℕ → List Act → Type 0
   IsAll at acts = (less : at < workers) × (acts ≡ worker_acts engine ((run.each at less).did.done ++ (run.each at less).did.cut))
 
-  -- on the shard all callers have more calls than this: the timer at its ticks, and each worker by all that its link gave
+  -- on the shard all callers together have more calls than this: the timer at its ticks, and each worker by all that its link gave
   pub record IsOverfull (journal shard : ℕ) : Type 0 where
     pub acts : List (List Act)
     pub long : length acts ≡ workers
     pub each : (at : ℕ) (other : List Act) → at < workers → IsAll at (slice_index_or acts at other)
     pub over : journal < all_on shard 0 (timer_acts engine orders run.timer.did.got false ∷ acts)
 
-  -- the shard's journal is at its limit, and the first caller that didn't end well has a call more there
+  -- the shard's journal is at its limit, and the first caller that didn't end well has one more call there
   pub record IsFull (journal shard : ℕ) : Type 0 where
     pub inside : shard < length engine.locks
     pub full : length (histories shard) ≡ journal
@@ -77,8 +77,8 @@ module _ (engine : Shards) (histories : ℕ → List Entry) (orders : List Line)
   IsFinishCause journal (JournalFull shard) = IsFull journal shard
   IsFinishCause journal (Turns number) = IsTurns number
 
-  -- where every link of a worker ended, no count of a link or of the ticker rose, and no shard has more calls than a journal
-  -- takes, the run is done
+  -- the run is done if every link of a worker ended, no receive and no tick failed, and no shard has more calls than a journal
+  -- accepts
   abbrev pub Completes : ℕ → Finish → Type 0
   Completes journal finish =
       ((number : ℕ) → 0 < number → number ≤ workers → ((after number).counts.over ≡ true) × ((after number).counts.receive_faults ≡ 0))

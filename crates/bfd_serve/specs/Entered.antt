@@ -11,8 +11,8 @@ use Rattle.bfd_engine.specs.Turned.{entry_of, given_after, HasExpired}
 use Rattle.bfd_engine.specs.Engines.{Shards, configs_at}
 use Rattle.bfd_engine.specs.Judging.{IsAnswered, packet_answer, return_answer}
 
--- each tick in the shards' histories: the sessions that forgot by it that a packet was heard are exactly those that it expires
--- (RFC 5880 section 6.8.4), and nothing was left that was due by the last tick
+-- at each tick in the shards' histories, exactly the sessions that it expires forgot that a packet was heard (RFC 5880 section
+-- 6.8.4). Nothing was left that was due by the last tick
 abbrev pub AreTimely : Shards → (ℕ → List Entry) → Type 0
 AreTimely engine histories =
     (shard caller t : ℕ) (before after : List Entry) → histories shard ≡ before ++ entry_of caller (Tick t) ∷ after
@@ -24,8 +24,8 @@ HasAnswer expected engine shard caller place moment event before =
     IsAnswered expected engine shard place moment event caller (before ++ entry_of caller (Own place moment event) ∷ [])
     (given_after (configs_at engine shard) before (Own place moment event)).answer
 
--- each packet in the shards' histories was discarded by the first of all tests that it failed, and handled where it failed none
--- (RFC 5880 section 6.8.6); each echo packet that came back was handled where its number was awaited (section 6.8.8)
+-- each packet in the shards' histories was discarded by the first of all tests that it failed, and handled if it failed none
+-- (RFC 5880 section 6.8.6). Each echo packet that came back was handled if its number was awaited (section 6.8.8)
 pub record AreJudged (engine : Shards) (histories : ℕ → List Entry) : Type 0 where
   pub packets : (shard caller place moment : ℕ) (arrival : Arrival) (before after : List Entry)
       → histories shard ≡ before ++ entry_of caller (Own place moment (Packet arrival)) ∷ after

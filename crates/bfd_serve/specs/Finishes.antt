@@ -33,7 +33,7 @@ HadMemory (ends.Full shard n) = Unit {0}
 HadMemory (ends.Turns n) = Unit {0}
 HadMemory ends.Memory = ⊥
 
--- the finish by the end of the caller of this number, which stands before the others
+-- the finish by the end of the caller of this number, which comes before the others
 abbrev pub finish_by : ℕ → End → Finish → Finish
 finish_by number ends.Ended others = others
 finish_by number ends.LinkFault others = LinkFault number
@@ -43,7 +43,7 @@ finish_by number (ends.Turns n) others = Turns number
 finish_by number (ends.Spent shard word) others = others
 finish_by number ends.Memory others = others
 
--- the finish by the ends of the callers from this number on: that of the first fault
+-- the finish by the ends of the callers from this number on: that of the first one that has a finish, or Done
 abbrev pub finish_from : ℕ → List End → Finish
 finish_from number [] = Done
 finish_from number (end ∷ more) = finish_by number end (finish_from (number + 1) more)

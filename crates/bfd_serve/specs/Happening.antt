@@ -8,8 +8,8 @@ use Rattle.bfd_shard.specs.declared.entry.ShardEvent.TheVariants.{Own, Tick}
 use Rattle.bfd_script.specs.declared.line.entries.Line.TheVariants as events
 use Rattle.bfd_serve.specs.Written.{event_fields}
 
--- an own event of the session with this discriminator: as a packet file has it, or `back MOMENT DISCR SEQ` for an echo packet
--- that came back, which a packet file has only as it arrives
+-- an own event of the session with this discriminator, as in a packet file. An echo packet that came back is
+-- `back MOMENT DISCR SEQ`; a packet file has it only as it arrives
 abbrev pub own_fields : ℕ → ℕ → Event → List (List ℕ)
 own_fields discr moment (Packet arrival) = event_fields (events.Rx moment arrival)
 own_fields discr moment (Returned sequence) = codes "back" ∷ decimal moment ∷ decimal discr ∷ decimal sequence ∷ []

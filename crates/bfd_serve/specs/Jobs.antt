@@ -25,13 +25,13 @@ module _ {L : Type 0} (told : L → LinkTold) where
   IsOpen link = (told link).counts.over ≡ false
 
   module _ (engine : Shards) where
-    -- what a worker asks of its job
+    -- what a worker requires of its job
     pub record IsReady (job : Job L) : Type 0 where
       pub of : IsOf engine job.pass.1
       pub there : AllThere job.pass.1
       pub open_is : IsOpen job.link
 
-    -- what it makes of it
+    -- the job after its work
     pub record IsWorked (turns : ℕ) (before after : Job L) : Type 0 where
       pub of : IsOf engine after.pass.1
       pub there : AllThere after.pass.1

@@ -44,8 +44,8 @@ abbrev pub calls_kept : ℕ → List Knows → List (ℕ × List Entry)
 calls_kept shard [] = []
 calls_kept shard (pass ∷ passes) = (pass.0, mine pass shard) ∷ calls_kept shard passes
 
--- on a shard caller 0 knew k, and knows l once it has taken in these passes, one after another: it has seen what each of them
--- had and no more, with no further call of its own, and keeps the number and the calls of each
+-- on a shard caller 0 knew k, and knows l after it has joined these passes, one after another. It has seen what each of them
+-- had and no more. It made no further call of its own, and keeps the number and the calls of each
 pub record AreJoined (k : Knows) (passes : List Knows) (l : Knows) (shard : ℕ) : Type 0 where
   pub own : mine l shard ≡ mine k shard
   pub kept : kept_at l shard ≡ kept_at k shard ++ calls_kept shard passes

@@ -29,7 +29,7 @@ pub record AreShut (ports : PortsTold) : Type 0 where
 pub record AreUncalled (ports : PortsTold) : Type 0 where
   pub shut : (number : ℕ) → ports.opened number ≡ true → (link : LinkTold) × (ports.shut number ≡ Some link) × IsNewLink link
 
--- how opening failed, where it did
+-- what the count of faults shows when opening failed
 abbrev pub IsFaultOf : Refused → PortsTold → PortsTold → Type 0
 IsFaultOf PortFault before after = after.faults ≡ risen before.faults 1
 IsFaultOf Memory before after = after.faults ≡ before.faults
@@ -39,7 +39,7 @@ pub record IsUnopened (refused : Refused) (before after : PortsTold) : Type 0 wh
   pub fault : IsFaultOf refused before after
   pub uncalled : AreUncalled after
 
--- a port couldn't be opened: the links that were are shut, and nothing ran; memory may run out at any place
+-- a port couldn't be opened: the opened links are shut, and nothing ran. Memory may run out at any place
 abbrev pub IsLinkRefused : Refused → PortsTold → PortsTold → TickerTold → TickerTold → Type 0
 IsLinkRefused PortFault before after c d = IsUnopened PortFault before after × (d ≡ c)
 IsLinkRefused Memory before after c d = after.faults ≡ before.faults

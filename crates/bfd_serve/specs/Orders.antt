@@ -20,7 +20,7 @@ abbrev pub orders_due : ℕ → List Line → ℕ
 orders_due t [] = 0
 orders_due t (order ∷ orders) = if is_due t order then orders_due t orders + 1 else 0
 
--- what an order comes to; a packet and a tick are no orders, and come to nothing
+-- what an order resolves to; a packet and a tick are no orders, and resolve to nothing
 abbrev pub order_act : Shards → Line → Act
 order_act engine (Rx moment arrival) = Rests [] Handled
 order_act engine (Tick t) = Rests [] Handled
@@ -49,7 +49,7 @@ abbrev pub orders_left : List Line → List ℕ → List Line
 orders_left orders [] = orders
 orders_left orders (t ∷ ts) = orders_left (drop (orders_due t orders) orders) ts
 
--- all that the timer has to do: after the last tick the orders that are left, unless the ticker failed
+-- all that the timer has to do: its ticks, and then the orders that are left, unless the ticker failed
 abbrev pub timer_acts : Shards → List Line → List ℕ → Bool → List Act
 timer_acts engine orders ticks failed =
     ticks_acts engine orders ticks ++ (if failed then [] else orders_acts engine (orders_left orders ticks))

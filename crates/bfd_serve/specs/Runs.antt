@@ -26,7 +26,7 @@ abbrev pub journal_in : Option Shard → List Entry
 journal_in (Some shard) = shard.journal
 journal_in None = []
 
--- the history of the shard of this number, where there is one
+-- the history of the shard of this number, if there is one
 abbrev pub history_at : List Shard → ℕ → List Entry
 history_at shards number = journal_in (slice_get shards number)
 
@@ -34,12 +34,12 @@ history_at shards number = journal_in (slice_get shards number)
 abbrev pub no_words : ℕ → ℕ
 no_words shard = 0
 
--- what the link of a number tells, of caller 0's and the workers'
+-- what is observed of the link of a number, of caller 0's and the workers'
 abbrev pub told_on_link : {L : Type 0} → (L → LinkTold) → L → List L → ℕ → LinkTold
 told_on_link told own links number = told (slice_index_or (own ∷ links) number own)
 
--- what the timer did: of all that it had to do at the ticks that its ticker gave, the entries of caller 0 in the histories are,
--- shard by shard, those of its calls, without those that Full left out
+-- what the timer did of all that it had to do at the ticks that its ticker gave: shard by shard, the entries of caller 0 in the
+-- histories are those of its calls, without the calls that Full left out
 pub record TimerRan (engine : Shards) (histories : ℕ → List Entry) (t u : LinkTold) (c d : TickerTold) (orders : List Line) (ticks : ℕ)
     (end : End) (missing : ℕ) : Type 0 where
   pub own : ℕ → List Entry
@@ -53,7 +53,7 @@ pub record WorkerRan (engine : Shards) (histories : ℕ → List Entry) (number 
   pub own_is : (shard : ℕ) → shard < length engine.locks → calls by number (histories shard) ≡ own shard
   pub did : WorkerDid engine number own histories no_words t u turns end missing
 
--- what all did, where the links told `before` and then `after`, by number. No entry names anyone else
+-- what all did, when the links were observed as `before` and then as `after`, by number. No entry names any other caller
 pub record HaveRun (engine : Shards) (histories : ℕ → List Entry) (orders : List Line) (workers : ℕ) (limits : Limits)
     (before after : ℕ → LinkTold) (c d : TickerTold) (ends : List End) (lost : ℕ) : Type 0 where
   pub timer_end : End
@@ -80,7 +80,7 @@ pub record IsOpened (engine : Shards) (script : Lists) (shards journal : ℕ) : 
   pub pool : engine.pool ≡ script.pool
   pub limit : engine.limit ≡ journal
 
--- a closed shard of it: it was made of the sessions that are dealt to it, and is what its journal makes of them
+-- a closed shard of it: it was built from its share of the sessions, which are as its journal leaves them
 pub record IsClosedShard (engine : Shards) (number : ℕ) (shard : Shard) : Type 0 where
   pub configs : configs_of shard.sessions ≡ configs_at engine number
   pub limit : shard.limit ≡ engine.limit
@@ -91,7 +91,7 @@ pub record AreClosedShards (engine : Shards) (shards : List Shard) : Type 0 wher
   pub long : length shards ≡ length engine.locks
   pub each : (number : ℕ) (shard : Shard) → slice_get shards number ≡ Some shard → IsClosedShard engine number shard
 
--- the first parts of configurations that are dealt out to so many shards
+-- the first parts of configurations that are distributed over so many shards
 pub record AreDealt (shards count : ℕ) (configs : List SessionConfig) (parts : List (List SessionConfig)) : Type 0 where
   pub long : length parts ≡ count
   pub each : (shard : ℕ) → shard < count → slice_index_or parts shard [] ≡ share shards shard configs

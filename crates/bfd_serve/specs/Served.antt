@@ -1,4 +1,4 @@
--- The served text: the histories of shards, entry by entry, each with what it gave.
+-- The served text: the histories of shards, entry by entry, each with its outcome.
 use Rattle.std.specs.Prelude.{ℕ, ◌+◌, List, [], ◌∷◌, ◌++◌, length, slice_get, sum_by, codes, Option, None, Some}
 use Rattle.std.specs.Fmt.{decimal}
 use Rattle.bfd_session.specs.declared.event.SessionConfig.{SessionConfig}
@@ -13,7 +13,7 @@ use Rattle.bfd_script.specs.Report.{event_lines, packets_sent}
 use Rattle.bfd_script.specs.Spelling.{line, spaced}
 use Rattle.bfd_serve.specs.Happening.{happening_fields}
 
--- what a shard's text is made from: the configurations of its sessions, and its journal
+-- what a shard's text is built from: the configurations of its sessions, and its journal
 pub record History : Type 0 where
   pub configs : List SessionConfig
   pub journal : List Entry
@@ -21,12 +21,12 @@ pub record History : Type 0 where
 abbrev pub shard_history : Shard → History
 shard_history shard = record { configs = configs_of shard.sessions; journal = shard.journal }
 
--- what an entry gave that comes after these: the outputs and the answer of its event, of the sessions as the entries before it
--- have left them
+-- the outcome of an entry that comes after these: the outputs and the answer of its event, of the sessions as the entries before
+-- it have left them
 abbrev pub reply_at : List SessionConfig → List Entry → Entry → Outcome
 reply_at configs before entry = outcome_of (last_tick (events_of before)) entry.event (runs (events_of before) configs)
 
--- the discriminator of a session that may be there
+-- the discriminator of a session, or 0 if there is none
 abbrev pub discr_at : Option SessionConfig → ℕ
 discr_at None = 0
 discr_at (Some config) = discr_of config
@@ -43,7 +43,7 @@ turn_head number caller = spaced (codes "turn" ∷ decimal number ∷ decimal ca
 abbrev pub turn_line : ℕ → ℕ → Entry → List ℕ
 turn_line number discr entry = turn_head number entry.caller ++ line (happening_fields discr entry.event)
 
--- an entry that comes after these, counted from 1: its turn, and the report lines of what it gave
+-- an entry that comes after these, counted from 1: its turn, and the report lines of its outcome
 abbrev pub entry_text : List SessionConfig → List Entry → Entry → List ℕ
 entry_text configs before entry =
     turn_line (length before + 1) (discr_in configs entry.event) entry ++ event_lines (length before + 1) (reply_at configs before entry)
@@ -80,7 +80,7 @@ shards_text number (history ∷ histories) = shard_text number history ++ shards
 abbrev pub served_line : ℕ → ℕ → ℕ → List ℕ
 served_line entries txs lost = line (codes "served" ∷ decimal entries ∷ decimal txs ∷ decimal lost ∷ [])
 
--- the served text of shards with these histories, where so many sends failed: the entries of all journals are counted, and the
+-- the served text of shards with these histories, when so many sends failed: the entries of all journals are counted, and the
 -- packets that they sent
 abbrev pub served : List History → ℕ → List ℕ
 served histories lost =

@@ -1,4 +1,4 @@
--- What a run of workers beside a timer did.
+-- What a run of workers and a timer did.
 use Rattle.std.specs.Prelude.{◌≡◌, ℕ, ◌+◌, ◌*◌, ◌<◌, ◌≤◌, List, [], ◌∷◌, ◌++◌, length, Some, slice_get, slice_index_or}
 use Rattle.std.specs.List.{sum}
 use Rattle.bfd_packet.specs.declared.arrival.Arrival.{Arrival}
@@ -18,17 +18,16 @@ use Rattle.bfd_serve.specs.Works.{IsAside, IsWorkerEnd}
 use Rattle.bfd_serve.specs.Orders.{timer_acts}
 use Rattle.bfd_serve.specs.Ticks.{IsTimerEnd, is_clock_fault, more_given, HasTimed}
 
--- the timer, with what each call asks of a pass
+-- the timer, with what each call requires of a pass
 pub record IsTended (engine : Shards) (k l : Knows) (t u : LinkTold) (c d : TickerTold) (orders : List Line) (ticks : ℕ) (end : End)
     (lost : ℕ) : Type 0 where
   pub of : IsOf engine l.1
   pub there : AllThere l.1
   pub timed : HasTimed engine k l t u c d orders ticks end lost
 
--- what a caller's acts `done` left on each shard, where in the end the shards have these histories: its own entries there are
--- exactly those of their calls. What they send was sent in order on its link, which is the same in the end, but for those that failed and
--- for the last ones
--- that weren't tried
+-- what a caller's acts `done` left on each shard, when in the end the shards have these histories: its own entries there are
+-- exactly those of their calls. Their packets were sent in order on its link, except those that failed and the last ones, which weren't
+-- tried. In the end it has the same link
 pub record HasDone (engine : Shards) (caller : ℕ) (own histories : ℕ → List Entry) (t u : LinkTold) (heard : List (ℕ × Arrival))
     (done : List Act) (untried : List Datagram) (lost : ℕ) : Type 0 where
   pub gains : (shard : ℕ) → own shard ≡ entries caller shard (calls_of done)
@@ -43,7 +42,7 @@ pub record HasDone (engine : Shards) (caller : ℕ) (own histories : ℕ → Lis
   pub lost_is : lost ≡ risen 0 missing
 
 -- what a worker did: of the arrivals that its link gave, those of `done` were handled, and those of `cut` were not. The link gave
--- `turned` answers, some of them Quiet
+-- `turned` answers, of which some may be Quiet
 pub record WorkerDid (engine : Shards) (caller : ℕ) (own histories : ℕ → List Entry) (words : ℕ → ℕ) (t u : LinkTold) (turns : ℕ)
     (end : End) (lost : ℕ) : Type 0 where
   pub done : List (ℕ × Arrival)

@@ -13,12 +13,12 @@ use Rattle.bfd_serve.specs.declared.ending.End.TheVariants.{Ended, LinkFault, Cl
 use Rattle.bfd_serve.specs.Works.{Did, Stops, IsAside, IsStopped, IsWhole}
 use Rattle.bfd_serve.specs.Orders.{ticks_acts, orders_left, timer_acts}
 
--- these ticks more were given, where the ticker keeps them
+-- these ticks more were given, if the ticker keeps them
 abbrev pub more_given : List ℕ → Option Ticks → Option Ticks
 more_given got None = None
 more_given got (Some ticks) = Some (record { given = ticks.given ++ got; left = drop (length got) ticks.left })
 
--- why the timer ended, and what is left out of its acts and its sends: when out of memory some of these, or of its ticks
+-- why the timer ended, and what is left out of its acts and its sends; when out of memory, some of these or of its ticks are
 abbrev pub IsTimerEnd : Shards → (ℕ → List Entry) → (ℕ → ℕ) → TickerTold → TickerTold → List ℕ → ℕ → List Act → List Datagram → End → Type 0
 IsTimerEnd engine histories words c d got ticks cut untried Ended =
     (cut ≡ []) × (untried ≡ []) × (d.faults ≡ c.faults) × ((d.over ≡ true) ⊎ (length got ≡ ticks))
@@ -42,8 +42,8 @@ is_clock_fault (TurnsMade n) = false
 is_clock_fault (Spent shard word) = false
 is_clock_fault Memory = false
 
--- what the timer did: of all that it had to do at the ticks that its ticker gave in this run, the acts of `done` were done, and
--- those of `cut`, of which there are none but after Full, Spent or Memory, were not
+-- what the timer did: of its acts at the ticks that its ticker gave in this run, those of `done` were done, and those of `cut`
+-- were not. Only after Full, Spent or Memory can `cut` have some
 pub record HasTimed (engine : Shards) (k l : Knows) (t u : LinkTold) (c d : TickerTold) (orders : List Line) (ticks : ℕ) (end : End)
     (lost : ℕ) : Type 0 where
   pub got : List ℕ
@@ -58,7 +58,7 @@ pub record HasTimed (engine : Shards) (k l : Knows) (t u : LinkTold) (c d : Tick
   pub few : length got ≤ ticks
   pub ends : IsTimerEnd engine (seen_at l) (met_word l) c d got ticks cut untried end
 
--- the same after so many ticks, with no end, where these orders are left
+-- the same after so many ticks, with no end, and these orders left
 pub record IsTicking (engine : Shards) (k l : Knows) (t u : LinkTold) (c d : TickerTold) (orders left : List Line) (count : ℕ)
     (lost : ℕ) : Type 0 where
   pub got : List ℕ

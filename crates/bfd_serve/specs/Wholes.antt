@@ -16,9 +16,9 @@ use Rattle.bfd_serve.specs.Runs.{HaveRun, IsOpened, AreClosedShards, history_at}
 use Rattle.bfd_serve.specs.Causes.{IsFinishCause, Completes}
 use Rattle.bfd_serve.specs.Entered.{AreTimely, AreJudged}
 
--- a run of a script: its engine, the link of each caller, which was opened by its number, from its opening to its shutting, and what
--- all did, to the text; each tick in a
--- shard's history expired exactly the sessions whose Detection Time had come, and each packet in it was judged by all tests
+-- a run of a script: its engine, the link of each caller, opened by its number, from opening to shutting, what all did, and the text.
+-- Each tick in a shard's history expired exactly the sessions whose Detection Time had come, and each packet in it was judged by all
+-- tests
 pub record HasRun (script : Lists) (shards workers journal : ℕ) (limits : Limits) (q : PortsTold) (c d : TickerTold) (states : List Shard)
     (text : List ℕ) (lost : ℕ) (finish : Finish) : Type 0 where
   pub engine : Shards

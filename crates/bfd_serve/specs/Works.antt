@@ -18,7 +18,7 @@ use Rattle.bfd_serve.specs.declared.ending.End.{End}
 use Rattle.bfd_serve.specs.declared.ending.End.TheVariants.{Ended, LinkFault, ClockFault, Full, Turns as TurnsMade, Spent, Memory}
 use Rattle.bfd_serve.specs.Calls.{calls_of, entries, datagrams, sends_of_acts, Lacks, worker_acts}
 
--- the packets of some outputs were sent, but for those that failed and for these last ones that weren't tried
+-- the packets of some outputs were sent, except those that failed and these last ones, which weren't tried
 pub record HasSent (packets untried : List Datagram) (t u : LinkTold) (lost after : ℕ) : Type 0 where
   pub tried : List Datagram
   pub kept : List Datagram
@@ -37,17 +37,16 @@ end_of fault.Memory = Memory
 end_of (fault.Full shard length) = Full shard length
 end_of (fault.Spent shard word) = Spent shard word
 
--- what was sent after a call of the engine: nothing after a fault; all, or when out of memory not the last ones
+-- what was sent after a call of the engine: nothing after a fault; else all, or all but the last ones when out of memory
 abbrev pub IsSentAfter : Result Answer EngineFault → List Out → LinkTold → LinkTold → ℕ → ℕ → Result (Unit {0}) End → Type 0
 IsSentAfter (Err f) outs t u lost after result = (result ≡ Err (end_of f)) × (u ≡ t) × (after ≡ lost)
 IsSentAfter (Ok answer) outs t u lost after (Ok done) = HasSent (datagrams outs) [] t u lost after
 IsSentAfter (Ok answer) outs t u lost after (Err end) =
     (untried : List Datagram) × HasSent (datagrams outs) untried t u lost after × (end ≡ Memory) × (0 < length untried)
 
--- a caller's pass k became l by the acts `done`, and its link told t and then u. What it gained on each shard are exactly the
--- entries of their calls, and it is the same link. What they send was sent in order, but for those that failed and for the last ones that
--- weren't
--- tried. Of the acts `cut` no call was made
+-- a caller's pass k became l by the acts `done`, and its link, the same one, was observed as t and then as u. What the pass gained on
+-- each shard are exactly the entries of their calls. Their packets were sent in order, except those that failed and the last ones, which
+-- weren't tried. Of the acts `cut` no call added an entry
 pub record Did (engine : Shards) (k l : Knows) (t u : LinkTold) (heard : List (ℕ × Arrival)) (done cut : List Act) (untried : List Datagram)
     (lost after : ℕ) : Type 0 where
   pub number : l.0 ≡ k.0
@@ -72,9 +71,9 @@ pub record Did (engine : Shards) (k l : Knows) (t u : LinkTold) (heard : List (�
 abbrev pub StartsOn : ℕ → List Act → Type 0
 StartsOn shard cut = (event : ShardEvent) × (rest : List Act) × (cut ≡ Turns shard event ∷ rest)
 
--- why a caller stopped in its acts, of which `cut` are left out, where the shards' histories and words are at least these. By Full the
--- refused call is the first that is left out, on a shard whose journal is at its limit; by Spent on one whose lock has no turn left. When
--- out of memory any last acts may be left out, or the last packets of the last one that was made: some are
+-- why a caller stopped in its acts, of which `cut` are left out, when the shards' histories and words are at least these. With Full the
+-- refused call is the first that is left out, on a shard whose journal is at its limit; with Spent on one whose lock has no turn left.
+-- When out of memory, some last acts are left out, or some last packets
 abbrev pub Stops : Shards → (ℕ → List Entry) → (ℕ → ℕ) → List Act → List Datagram → End → Type 0
 Stops engine histories words cut untried (Full shard n) =
     (untried ≡ []) × (n ≤ length (histories shard)) × StartsOn shard cut × (n ≡ engine.limit)
@@ -86,7 +85,7 @@ Stops engine histories words cut untried LinkFault = ⊥
 Stops engine histories words cut untried ClockFault = ⊥
 Stops engine histories words cut untried (TurnsMade n) = ⊥
 
--- what a link tells of receiving is as before
+-- what is observed of a link's receiving is as before
 pub record IsAside (t u : LinkTold) : Type 0 where
   pub over : u.counts.over ≡ t.counts.over
   pub receive_faults : u.counts.receive_faults ≡ t.counts.receive_faults
@@ -123,8 +122,8 @@ pub record IsTooWide (engine : Shards) : Type 0 where
   pub there : shard < length engine.locks
   pub wide : 2 ^ 64 ≤ 5 * length (configs_at engine shard)
 
--- why a worker ended that took so many turns of its number, and what is left out of its acts and its sends: when out of memory some of
--- these, or of its turns
+-- why a worker ended that made so many turns of its number, and what is left out of its acts and its sends; when out of memory, some of
+-- these or of its turns are
 abbrev pub IsWorkerEnd : Shards → (ℕ → List Entry) → (ℕ → ℕ) → LinkTold → LinkTold → ℕ → ℕ → List Act → List Datagram → End → Type 0
 IsWorkerEnd engine histories words t u turned turns cut untried Ended =
     (cut ≡ []) × (untried ≡ []) × (u.counts.over ≡ true) × (u.counts.receive_faults ≡ t.counts.receive_faults)
@@ -142,8 +141,8 @@ IsWorkerEnd engine histories words t u turned turns cut untried Memory =
     (u.counts.over ≡ false) × (u.counts.receive_faults ≡ t.counts.receive_faults) × ((0 < length cut + length untried) ⊎ (turned < turns))
 IsWorkerEnd engine histories words t u turned turns cut untried ClockFault = ⊥
 
--- what a worker did: of the arrivals that its link gave in this run, those of `done` were handled, and those of `cut`, of which
--- there are none but after Full, Spent or Memory, were not. The link gave `turned` answers, some of them Quiet
+-- what a worker did: of the arrivals that its link gave in this run, those of `done` were handled, and those of `cut` were not. Only
+-- after Full, Spent or Memory can `cut` have some. The link gave `turned` answers, of which some may be Quiet
 pub record HasWorked (engine : Shards) (k l : Knows) (t u : LinkTold) (turns : ℕ) (end : End) (lost : ℕ) : Type 0 where
   pub done : List (ℕ × Arrival)
   pub cut : List (ℕ × Arrival)

@@ -47,7 +47,7 @@ abbrev pub mode_field : Bool → List ℕ
 mode_field true = codes "active"
 mode_field false = codes "passive"
 
--- whether a reflector is Up, or was told to say AdminDown
+-- whether a reflector is Up or set to AdminDown
 abbrev pub up_field : Bool → List ℕ
 up_field true = codes "up"
 up_field false = codes "admin"
@@ -60,7 +60,7 @@ port_field ports.Echo = codes "echo"
 port_field ports.Sbfd = codes "sbfd"
 port_field ports.Answer = codes "answer"
 
--- a command: its word, and its number where it has one
+-- a command: its word, and its number if it has one
 abbrev pub verb_fields : Cmd → List (List ℕ)
 verb_fields commands.Disable = codes "disable" ∷ []
 verb_fields commands.Enable = codes "enable" ∷ []
@@ -108,7 +108,7 @@ abbrev pub list_text : ℕ → AuthType → List Key → List ℕ
 list_text discr kind [] = []
 list_text discr kind (key ∷ keys) = line (auth_fields discr kind key) ++ more_text discr keys
 
--- the lines of a session's keys, where it has some
+-- the lines of a session's keys, if it has some
 abbrev pub keys_text : ℕ → Option KeyChain → List ℕ
 keys_text discr None = []
 keys_text discr (Some keys) = list_text discr keys.kind keys.list

@@ -1,4 +1,4 @@
--- A session by itself: what an event at a moment, and a tick, make of it. `last` is the greatest tick before them.
+-- A session by itself after an event at a moment, and after a tick. `last` is the greatest tick before them.
 use Rattle.std.specs.Prelude.{ℕ, ◌*◌, max, List}
 use Rattle.bfd_rules.specs.declared.outputs.Out.{Out}
 use Rattle.bfd_session.specs.declared.event.Event.{Event}
@@ -19,7 +19,7 @@ effective moment last s = max moment (max (1000 * last) s.vars.at)
 abbrev pub stepped : ℕ → ℕ → Event → Running → Running
 stepped moment last event s = next (effective moment last s) event s
 
--- what the session's own event gives
+-- the outcome of the session's own event
 abbrev pub step_outcome : ℕ → ℕ → Event → Running → Outcome
 step_outcome moment last event s = record {
   items = emits (effective moment last s) event s;

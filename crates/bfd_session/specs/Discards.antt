@@ -44,7 +44,7 @@ plain_fails v raw AuthUnexpected = (fields_of raw).auth
 plain_fails v raw AdminDown = is_admin_down v.state
 plain_fails v raw test = false
 
--- the sentence of each test of a session; no packet is a head's
+-- the sentence of each test of a session; a head receives no packets
 abbrev pub own_fails : SessionConfig → Vars → Arrival → Test → Bool
 own_fails (Pair c) v arrival test = pair_fails c v arrival.ttl arrival.payload test
 own_fails (Seek c) v arrival test = plain_fails v arrival.payload test
@@ -75,7 +75,7 @@ all_tests c arrival =
 abbrev pub first_discarding : List Row → SessionConfig → Vars → Arrival → Option Test
 first_discarding rows c v arrival = find (discards rows c v arrival) (all_tests c arrival)
 
--- the test that a verdict tells of
+-- the test that a verdict names
 abbrev pub test_of : Verdict → Option Test
 test_of Accepted = None
 test_of (Discarded test) = Some test

@@ -18,12 +18,12 @@ use Rattle.bfd_echo.specs.Sequence.{is_outstanding}
 use Rattle.bfd_echo.specs.Timing.{is_echo_wanted, echo_interval, due}
 use Rattle.bfd_session.specs.Kinds.{Flow, along}
 
--- the Echo function should run: over a single hop, in Up, where both sides want it (RFC 5880 section 6.8.9, RFC 5881
+-- the Echo function should run: over a single hop, in Up, when both sides allow it (RFC 5880 section 6.8.9, RFC 5881
 -- section 4; RFC 5883 section 3 forbids it over several hops)
 abbrev pub should_echo : Config → Vars → Bool
 should_echo c v = is_single c.role && (is_up v.state && is_echo_wanted v.echo_every v.remote_min_echo)
 
--- the one that runs; one that should not is passed over until the end of the event
+-- the running Echo function; one that should no longer run is ignored until the end of the event
 abbrev pub echoing : Config → Vars → Option Echo → Option Echo
 echoing c v echo = if should_echo c v then echo else None
 
@@ -35,7 +35,7 @@ interval_of v = echo_interval v.echo_every v.remote_min_echo
 abbrev pub echo_due : Config → Vars → Option Echo → Option ℕ
 echo_due c v echo = option_map (λ e. due e (interval_of v) v.mult) (echoing c v echo)
 
--- what settling it gives: nothing; a packet, to the own address; or failure, and the session goes Down with diagnostic 2
+-- the result of settling it: nothing; a packet to the own address; or failure, and the session goes Down with diagnostic 2
 abbrev pub settled_by : Config → ℕ → EchoResult → Echo → Flow → Flow
 settled_by c eff Nothing after f = f
 settled_by c eff (Sent bytes) after f =
@@ -57,7 +57,7 @@ abbrev pub is_awaited : ℕ → Option Echo → Bool
 is_awaited sequence None = false
 is_awaited sequence (Some e) = is_outstanding e sequence
 
--- an echo packet with this number came back, for the one that runs
+-- an echo packet with this number came back, for the running Echo function
 abbrev pub back_to : ℕ → ℕ → Option Echo → Option Echo → Option Echo
 back_to eff sequence None echo = echo
 back_to eff sequence (Some e) echo = Some (returned eff sequence e)
@@ -65,16 +65,16 @@ back_to eff sequence (Some e) echo = Some (returned eff sequence e)
 abbrev pub takes_back : Config → ℕ → ℕ → Flow → Flow
 takes_back c eff sequence f = record f { echo = back_to eff sequence (echoing c f.course.vars f.echo) f.echo }
 
--- one that runs goes on; else one begins, with the next number
+-- a running Echo function goes on; else one begins, with the next number
 abbrev pub goes_on : ℕ → ℕ → Option Echo → Echo
 goes_on eff next None = echo_begun eff next
 goes_on eff next (Some e) = e
 
--- at the end of an event the Echo function runs exactly where it should
+-- at the end of an event the Echo function runs if and only if it should
 abbrev pub echo_after : Config → ℕ → Vars → Option Echo → ℕ → Option Echo
 echo_after c eff v echo next = if should_echo c v then Some (goes_on eff next echo) else None
 
--- and where one ends, its next number is the one that another begins with
+-- and when one ends, its next number is the one that another begins with
 abbrev pub number_by : Option Echo → ℕ → ℕ
 number_by None next = next
 number_by (Some e) next = e.next

@@ -13,8 +13,8 @@ discr_of (Seek c) = c.discr
 discr_of (Head c) = c.discr
 discr_of (Tail c) = c.discr
 
--- a session: its configuration, its variables, its Echo function where it runs, and the sequence number that the next one
--- begins with; a point-to-point session alone has an Echo function
+-- a session: its configuration, its variables, its Echo function if it runs, and the sequence number that the next one
+-- begins with; only a point-to-point session has an Echo function
 pub record Running : Type 0 where
   pub config : SessionConfig
   pub vars : Vars
@@ -25,7 +25,7 @@ pub record Running : Type 0 where
 abbrev pub configs_of : List Running → List SessionConfig
 configs_of sessions = map (λ s. s.config) sessions
 
--- an event on its way: the course of the session's machine, and the Echo function beside it
+-- an event on its way: the course of the session's machine, and the Echo function
 pub record Flow : Type 0 where
   pub course : Course
   pub echo : Option Echo
@@ -38,7 +38,7 @@ flow s echo echo_next = record { course = s; echo = echo; echo_next = echo_next 
 abbrev pub plain : Course → Flow
 plain s = flow s None 0
 
--- a rule of the machine leaves the Echo function
+-- a rule of the machine doesn't change the Echo function
 abbrev pub along : Flow → Course → Flow
 along f s = record f { course = s }
 

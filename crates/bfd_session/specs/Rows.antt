@@ -1,4 +1,4 @@
--- The rows by which arrivals are told, one for each session and each reflector.
+-- The rows by which arrivals are distinguished, one for each session and each reflector.
 use Rattle.std.specs.Prelude.{◌≡◌, ◌<◌, ◌==◌, ℕ, Bool, false, Option, List, [], ◌∷◌, ◌++◌, map, position}
 use Rattle.std.specs.List.{AllByRecursion}
 use Rattle.bfd_packet.specs.declared.arrival.Addr.{Addr}
@@ -20,8 +20,8 @@ abbrev pub kind_of : Role → ℕ → Addr → Addr → RowKind
 kind_of Single iface local remote = SingleRow iface local remote
 kind_of Multi iface local remote = MultiRow local remote
 
--- what a session's packets are told by: an initiator's by Your Discriminator alone (RFC 7880 section 7.3), a tail's by the head,
--- the interface, the group and the source (RFC 8562 section 5.7); a head has none
+-- how a session's packets are distinguished: an initiator's by Your Discriminator alone (RFC 7880 section 7.3), a tail's by the
+-- head, the interface, the group and the source (RFC 8562 section 5.7); a head receives none
 abbrev pub row_kind : SessionConfig → RowKind
 row_kind (Pair c) = kind_of c.role c.iface c.local c.remote
 row_kind (Seek c) = SeekRow
@@ -44,7 +44,7 @@ row_of_reflector reflector = record { discr = reflector.discr; kind = ReflectRow
 abbrev pub table_of : List SessionConfig → List Reflector → List Row
 table_of configs pool = rows_of configs ++ map row_of_reflector pool
 
--- two sessions have the same selecting addresses: a packet without Your Discriminator can't tell them apart (RFC 5881
+-- two sessions have the same selecting addresses: a packet without Your Discriminator can't distinguish them (RFC 5881
 -- section 3, RFC 5883 section 4, RFC 8562 section 5.7)
 abbrev pub same_selector : SessionConfig → SessionConfig → Bool
 same_selector c d = same_addresses (row_of c) (row_of d)

@@ -17,14 +17,14 @@ poll_number Idle = 0
 poll_number Wanted = 1
 poll_number (UnderWay first) = 2
 
--- the Desired Min TX Interval that the session advertises: a head's in every state, and none of a tail, which sends nothing
+-- the Desired Min TX Interval that the session advertises: a head's is the same in every state, and a tail, which sends nothing, has 0
 abbrev pub advertised : SessionConfig → Vars → ℕ
 advertised (Pair c) v = quantities.adv_tx v
 advertised (Seek c) v = quantities.adv_tx v
 advertised (Head c) v = v.tx
 advertised (Tail c) v = 0
 
--- its Detection Time, and none of a head, which hears nothing
+-- its Detection Time; a head, which hears nothing, has 0
 abbrev pub waits : SessionConfig → Vars → ℕ
 waits (Pair c) v = quantities.detection_time v
 waits (Seek c) v = seek.wait v

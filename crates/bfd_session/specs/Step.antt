@@ -53,13 +53,13 @@ IsFit (Seek c) = seek.IsSeekConfig c
 IsFit (Head c) = tree.IsHeadConfig c
 IsFit (Tail c) = tree.IsTailConfig c
 
--- a point-to-point session between events: sound variables, and an Echo function exactly where one should run
+-- a point-to-point session between events: sound variables, and an Echo function if and only if one should run
 pub record IsPairSound (c : Config) (s : Running) : Type 0 where
   pub vars : pair.IsSound c s.vars
   pub echoes : IsSome s.echo ↔ IsTrue (should_echo c s.vars)
   pub moments : IfSome s.echo HasMoments
 
--- no other session has one
+-- every other kind of session has no Echo function
 pub record IsEcholess (s : Running) : Type 0 where
   pub none : s.echo ≡ None
   pub none_sent : s.echo_next ≡ 0
@@ -96,14 +96,14 @@ pub record IsFor (on : Port) (set : Bool) (arrival : Arrival) : Type 0 where
   pub header : first_failing arrival.port arrival.payload ≡ None
   pub multi : (fields_of arrival.payload).multi ≡ set
 
--- a packet that a session may be handed: one with M set is for a tail (RFC 8562), and a head hears nothing
+-- a packet that a session may receive: one with M set is for a tail (RFC 8562), and a head hears nothing
 abbrev pub TakesPacket : SessionConfig → Arrival → Type 0
 TakesPacket (Pair c) arrival = IsFor (port_of c.role) false arrival
 TakesPacket (Seek c) arrival = IsFor AnswerPort false arrival
 TakesPacket (Head c) arrival = ⊥
 TakesPacket (Tail c) arrival = IsFor SinglePort true arrival
 
--- an event that a session may be handed
+-- an event that a session may receive
 abbrev pub CanTake : SessionConfig → Event → Type 0
 CanTake c (Packet arrival) = TakesPacket c arrival
 CanTake c event = Unit {0}
@@ -138,7 +138,7 @@ acted (Tail c) eff (Packet arrival) f = along f (tail_receive.received c eff arr
 acted (Tail c) eff (Command cmd) f = along f (tree_command.tail_commanded c cmd f.course)
 acted _ eff _ f = f
 
--- the end of the event: the extra packet, the next due tick, and the Echo function starts or stops; a tail's ends with nothing
+-- the end of the event: the extra packet, the next due tick, and the Echo function starts or stops; none of these for a tail
 abbrev pub finished : SessionConfig → ℕ → Flow → Flow
 finished (Pair c) eff f = turns_echo c eff (along f (pair_finish.finish c eff f.course))
 finished (Seek c) eff f = along f (seek_finish.finish c eff f.course)
@@ -205,7 +205,7 @@ abbrev pub answer_to_return : Bool → Answer
 answer_to_return true = Handled
 answer_to_return false = Dropped EchoStale
 
--- the verdict on a packet, by the variables after settling; no packet is a head's
+-- the verdict on a packet, by the variables after settling; a head receives no packets
 abbrev pub verdict_by : SessionConfig → Arrival → Vars → Verdict
 verdict_by (Pair c) arrival v = pair_receive.verdict_on c arrival.ttl arrival.payload v
 verdict_by (Seek c) arrival v = seek_receive.verdict_on arrival.payload v

@@ -13,7 +13,7 @@ abbrev pub Climbs : List ℕ → Type 0
 Climbs [] = Unit {0}
 Climbs (d ∷ ds) = AllByRecursion (λ e. d ≤ e) ds × Climbs ds
 
--- sessions and reflectors, each in ascending order of discriminator; the table's build tells of equal ones
+-- sessions and reflectors, each in ascending order of discriminator; building the table reports equal ones
 abbrev pub IsSorted : List SessionConfig → List Reflector → Type 0
 IsSorted configs pool = Climbs (map discr_of configs) × Climbs (map (λ reflector. reflector.discr) pool)
 

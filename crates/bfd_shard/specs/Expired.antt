@@ -13,11 +13,11 @@ abbrev pub has_expired : ℕ → Running → Bool
 has_expired last s = has_come (1000 * last) (detects s)
 
 -- the places, ascending, of the sessions that a tick after this history expires: those whose Detection Time has expired by
--- it, where a tick below the last tick counts as the last tick
+-- it. A tick below the last tick counts as the last tick
 abbrev pub expired : List SessionConfig → List ShardEvent → ℕ → List ℕ
 expired configs events t = places (has_expired (max (last_tick events) t)) 0 (runs events configs)
 
--- a session has forgotten that a packet was heard: it was there before, and isn't there after
+-- a session has forgotten that a packet was heard: it knew so before, and no longer after
 abbrev pub forgets : Running × Running → Bool
 forgets pair = is_some pair.0.vars.heard && is_none pair.1.vars.heard
 

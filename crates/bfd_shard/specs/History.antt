@@ -1,4 +1,4 @@
--- What the events of a shard make of its sessions. A history is the list of a shard's events, in the order in which they came:
+-- The sessions of a shard after its events. A history is the list of a shard's events, in the order in which they came:
 -- own events of the sessions, each with its place, and ticks of the clock, which are events of every session.
 use Rattle.std.specs.Prelude.{ℕ, ◌==◌, ◌+◌, List, [], ◌∷◌, if◌then◌else◌, max, map, slice_get, slice_set, Option, None, Some}
 use Rattle.std.specs.List.{flat_map}
@@ -12,11 +12,11 @@ use Rattle.bfd_shard.specs.declared.entry.ShardEvent.{ShardEvent}
 use Rattle.bfd_shard.specs.declared.entry.ShardEvent.TheVariants.{Own, Tick}
 use Rattle.bfd_shard.specs.declared.entry.Entry.{Entry}
 
--- the history that a journal tells: who brought an event has no part in it
+-- the history that a journal holds: its events, without their callers
 abbrev pub events_of : List Entry → List ShardEvent
 events_of journal = map (λ entry. entry.event) journal
 
--- the last tick after an event, where `last` was the last tick before: it never falls
+-- the last tick after an event, if `last` was the last tick before: it never falls
 abbrev pub later : ℕ → ShardEvent → ℕ
 later last (Own place moment event) = last
 later last (Tick t) = max last t
@@ -30,7 +30,7 @@ last_from last (event ∷ events) = last_from (later last event) events
 abbrev pub last_tick : List ShardEvent → ℕ
 last_tick events = last_from 0 events
 
--- the session at this place after an event, where `last` was the last tick before: an own event of another place does
+-- the session at this place after an event, if `last` was the last tick before. An own event of another place does
 -- nothing to it, and a tick below the last tick counts as the last tick
 abbrev pub after : ℕ → ℕ → ShardEvent → Running → Running
 after place last (Own other moment event) s = if other == place then stepped moment last event s else s
@@ -41,8 +41,8 @@ unfoldable pub run_from : ℕ → ℕ → List ShardEvent → Running → Runnin
 run_from place last [] s = s
 run_from place last (event ∷ events) s = run_from place (later last event) events (after place last event s)
 
--- the run of a session over a history: what its own events and the ticks make of a session of this configuration that
--- stands at this place from the start
+-- the run of a session over a history: a session of this configuration that stands at this place from the start, after its
+-- own events and the ticks
 abbrev pub run : ℕ → List ShardEvent → SessionConfig → Running
 run place events config = run_from place 0 events (started config)
 
@@ -64,12 +64,12 @@ abbrev pub own_outcome : Option Running → ℕ → ℕ → Event → Outcome
 own_outcome None moment last event = record { items = []; answer = Handled }
 own_outcome (Some s) moment last event = step_outcome moment last event s
 
--- all sessions of a shard after one event, where `last` was the last tick before
+-- all sessions of a shard after one event, if `last` was the last tick before
 unfoldable pub moved : ℕ → ShardEvent → List Running → List Running
 moved last (Own place moment event) sessions = own_moved (slice_get sessions place) place moment last event sessions
 moved last (Tick t) sessions = map (ticked (max last t)) sessions
 
--- what the event gives: an own event what its session gives, a tick the outputs of all sessions, by ascending place
+-- the outcome of the event: of an own event its session's outcome, of a tick the outputs of all sessions, by ascending place
 unfoldable pub outcome_of : ℕ → ShardEvent → List Running → Outcome
 outcome_of last (Own place moment event) sessions = own_outcome (slice_get sessions place) moment last event
 outcome_of last (Tick t) sessions = record { items = flat_map (tick_items (max last t)) sessions; answer = Ticked }

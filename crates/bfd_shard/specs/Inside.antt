@@ -1,4 +1,4 @@
--- What the parts of a shard hand to one another.
+-- What the parts of a shard pass to one another.
 use Rattle.std.specs.Prelude.{List}
 use Rattle.bfd_session.specs.Kinds.{Running}
 use Rattle.bfd_session.specs.Reaching.{Stands}

@@ -1,4 +1,4 @@
--- Sessions with their timers, whoever keeps a journal of their events.
+-- Sessions with their timers, without a journal of their events.
 use Rattle.std.specs.Prelude.{ℕ, ◌≡◌, ◌≤◌, List, length, map, max, Option}
 use Rattle.std.specs.List.{AllByRecursion}
 use Rattle.bfd_num.specs.Numbers.{greatest_tick}
@@ -16,7 +16,7 @@ pub record Timed : Type 0 where
   pub sessions : List Running
   pub last : ℕ
 
--- sessions between events: each is sound, the timers are their due ticks, and the ids find room for all of them
+-- sessions between events: each is sound, the timers are their due ticks, and the ids have room for all of them
 pub record IsTimed (sessions : List Running) (last : ℕ) (dues : List (Option ℕ)) (ids : HeldIds) : Type 0 where
   pub few : length sessions ≤ 65536
   pub early : last ≤ greatest_tick
@@ -24,7 +24,7 @@ pub record IsTimed (sessions : List Running) (last : ℕ) (dues : List (Option �
   pub timed : dues ≡ map due sessions
   pub ids_fit : length sessions ≤ room_of ids
 
--- a tick forgets of exactly the sessions that a packet was heard whose Detection Time has expired by it (RFC 5880 section 6.8.4);
+-- at a tick, exactly the sessions whose Detection Time has expired by it forget that a packet was heard (RFC 5880 section 6.8.4);
 -- of an own event this says nothing
 abbrev pub HasForgotten : ℕ → ShardEvent → List Running → List Running → Type 0
 HasForgotten last (Own place moment event) before after = Unit {0}

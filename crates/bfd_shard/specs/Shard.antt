@@ -14,7 +14,7 @@ use Rattle.bfd_shard.specs.declared.entry.Entry.{Entry}
 use Rattle.bfd_shard.specs.Expired.{expired, forgotten}
 use Rattle.bfd_shard.specs.History.{events_of, last_tick, runs}
 
--- a shard, as its callers see it; room is for how many entries more the journal's memory is there
+-- a shard, as its callers see it; room is how many more entries the journal has memory for
 pub record Shard : Type 0 where
   pub sessions : List Running
   pub last : ℕ
@@ -38,16 +38,16 @@ IsHistory configs events = AllByRecursion (CanHappen configs) events
 abbrev pub NoneDue : ℕ → List Running → Type 0
 NoneDue last sessions = AllByRecursion (λ s. has_come last (due s) ≡ false) sessions
 
--- every tick of a history, after the events before it, forgot of exactly those sessions that a packet was heard whose Detection
--- Time had expired by it (RFC 5880 section 6.8.4), and left nothing that was due by the last tick
+-- at every tick of a history, exactly the sessions whose Detection Time had expired by it forgot that a packet was heard (RFC 5880
+-- section 6.8.4). Nothing was left that was due by the last tick
 pub record IsOnTime (configs : List SessionConfig) (events : List ShardEvent) : Type 0 where
   pub exact : (before after : List ShardEvent) (t : ℕ) → events ≡ before ++ Tick t ∷ after
       → forgotten (runs before configs) (runs (before ++ Tick t ∷ []) configs) ≡ expired configs before t
   pub none_due : (before after : List ShardEvent) (t : ℕ) → events ≡ before ++ Tick t ∷ after
       → NoneDue (last_tick (before ++ Tick t ∷ [])) (runs (before ++ Tick t ∷ []) configs)
 
--- a shard between events: its journal is within its limit, and tells its history; its last tick is that of the history; each
--- session is what its own events and the ticks in the history make of it, with sound variables; and every tick was on time
+-- a shard between events: its journal is within its limit, and holds its history. Its last tick is that of the history. Each
+-- session is as its own events and the ticks in the history leave it, with sound variables. Every tick was on time
 pub record IsShard (shard : Shard) : Type 0 where
   pub few : length shard.sessions ≤ 65536
   pub full : length shard.journal ≤ shard.limit
@@ -73,7 +73,7 @@ abbrev pub IsOver : ℕ → ShardEvent → List Running → Type 0
 IsOver last (Own place moment event) sessions = Unit {0}
 IsOver last (Tick t) sessions = NoneDue last sessions
 
--- a tick of a shard forgets of exactly the expired sessions that a packet was heard; of an own event this says nothing
+-- at a tick of a shard, exactly the expired sessions forget that a packet was heard; of an own event this says nothing
 abbrev pub IsExact : Shard → ShardEvent → List Running → Type 0
 IsExact shard (Own place moment event) after = Unit {0}
 IsExact shard (Tick t) after = forgotten shard.sessions after ≡ expired (configs_of shard.sessions) (events_of shard.journal) t

@@ -1,4 +1,4 @@
--- What the calls of a thread come to.
+-- What the calls of a thread resolve to.
 use Rattle.std.specs.Prelude.{ℕ, ◌≡◌, ◌≤◌, ◌%◌, ◌++◌, List, [], ◌∷◌, length, OnOk}
 use Rattle.bfd_session.specs.declared.event.Event.TheVariants.{Command as CommandEvent}
 use Rattle.bfd_shard.specs.declared.entry.ShardEvent.TheVariants.{Tick as TickEvent}
@@ -11,17 +11,17 @@ use Rattle.bfd_thread_tests.specs.declared.embedding.threads.Saw.{Saw}
 use Rattle.bfd_thread_tests.specs.declared.embedding.threads.Job.{Job}
 use Rattle.bfd_thread_tests.specs.Ready.{IsJobReady}
 
--- what a call comes to
+-- what a call resolves to
 abbrev pub act_of : Shards → Call → Act
 act_of engine (Packet moment arrival) = arrival_act engine moment arrival
 act_of engine (Command moment discr cmd) = asking_by_discr engine moment discr (CommandEvent cmd)
 act_of engine (Advance shard tick) = Turns (shard % length engine.locks) (TickEvent tick)
 
--- a pass that knew k made this call, knows l after it, and this was seen of it
+-- a pass that knew k made this call, knows l after it, and observed this
 abbrev pub WasMade : Shards → Call → Knows → Knows → Saw → Type 0
 WasMade engine call k l saw = IsDone (act_of engine call) engine k l [] saw.outs.items saw.answer
 
--- .. these calls, from the last of the list to its first, and this was seen of each, in the order in which they were made
+-- .. these calls, from the last of the list to its first, and observed this of each, in the order in which they were made
 abbrev pub WereMade : Shards → List Call → Knows → Knows → List Saw → Type 0
 WereMade engine [] k l saw = (l ≡ k) × (saw ≡ [])
 WereMade engine (call ∷ calls) k l saw =

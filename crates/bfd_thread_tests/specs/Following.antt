@@ -6,11 +6,11 @@ use Rattle.bfd_watch.specs.declared.change.Change.{Change}
 use Rattle.bfd_watch.specs.Changes.{history_changes}
 use Rattle.bfd_watch.specs.Watching.{Watching}
 
--- these are the changes of the entries that the watch has taken: each once and in order
+-- these are the changes of the entries that the watch has received: each once and in order
 abbrev pub AreItsChanges : Watching → List Change → Type 0
 AreItsChanges watch told = told ≡ history_changes watch.configs (events_of watch.entries)
 
--- a client whose watch has taken these entries, and which was told their changes
+-- a client whose watch has received these entries, and which has received their changes
 pub record IsClientTold (seen : List Entry) (watch : Watching) (told : List Change) : Type 0 where
   pub taken : watch.entries ≡ seen
   pub changes_are : AreItsChanges watch told

@@ -10,8 +10,7 @@ use Rattle.bfd_thread_tests.specs.declared.embedding.threads.Call.{Call}
 use Rattle.bfd_thread_tests.specs.declared.embedding.threads.Job.{Job}
 use Rattle.bfd_thread_tests.specs.Ready.{IsJobReady}
 
--- caller 0's pass, with no turn held; of the passes that it made those with these numbers, in the order of their making, are left to
--- be joined
+-- caller 0's pass, with no turn held; the passes with these numbers, in the order in which it made them, are left to be joined
 pub record HasOpen (engine : Shards) (first : Knows) (numbers : List ℕ) : Type 0 where
   pub of : IsOf engine first.1
   pub there : AllThere first.1
@@ -19,7 +18,7 @@ pub record HasOpen (engine : Shards) (first : Knows) (numbers : List ℕ) : Type
   pub others : All (λ n. n ≢ 0) numbers
   pub made : (shard : ℕ) → shard < length engine.locks → made_at first shard ≡ numbers_of (kept_at first shard) ++ numbers
 
--- a job more, which is ready and has seen nothing. Its pass is one that caller 0 made, who knew k, and knows l then
+-- one more job, which is ready and has seen nothing. Caller 0, which knew k and then knows l, made its pass
 pub record HasAdded (engine : Shards) (k l : Knows) (before after : List Job) (calls : List Call) (room : ℕ) : Type 0 where
   pub job : Job
   pub after_is : after ≡ before ++ job ∷ []
@@ -29,8 +28,8 @@ pub record HasAdded (engine : Shards) (k l : Knows) (before after : List Job) (c
   pub unseen : job.saw.items ≡ []
   pub room_is : job.room ≡ room
 
--- caller 0 knew k, and knows l once it has taken in the passes of these jobs: it made no call of its own, what each pass has seen
--- begins what it has seen, and it keeps each pass's number and calls
+-- caller 0 knew k, and knows l after it has joined the passes of these jobs. It made no call of its own, and keeps each pass's
+-- number and calls. What each pass has seen is a prefix of what it has seen
 pub record HasJoined (engine : Shards) (k l : Knows) (jobs : List Job) : Type 0 where
   pub of : IsOf engine l.1
   pub there : AllThere l.1
@@ -42,7 +41,7 @@ pub record HasJoined (engine : Shards) (k l : Knows) (jobs : List Job) : Type 0 
       → kept_at l shard ≡ kept_at k shard ++ map (λ (j : Job). (j.pass.0, mine j.pass shard)) jobs
   pub made : (shard : ℕ) → shard < length engine.locks → made_at l shard ≡ made_at k shard
 
--- the shards of an engine that was closed once the passes of these jobs were joined
+-- the shards of an engine that was closed after the passes of these jobs were joined
 pub record HasClosed (engine : Shards) (first : Knows) (jobs : List Job) (shards : List Shard) : Type 0 where
   pub last : Knows
   pub joined : HasJoined engine first last jobs

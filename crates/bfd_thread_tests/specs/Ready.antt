@@ -3,7 +3,7 @@ use Rattle.std.specs.Prelude.{ℕ, ◌≤◌, ◌+◌, ◌*◌, length}
 use Rattle.bfd_engine.specs.Engines.{Shards, IsOf, AllThere, configs_at}
 use Rattle.bfd_thread_tests.specs.declared.embedding.threads.Job.{Job}
 
--- a job whose pass is one of the engine, with no turn held, and which makes room for what any call may put out
+-- a job whose pass is one of the engine, with no turn held, and which has room for what any call may emit
 pub record IsJobReady (engine : Shards) (job : Job) : Type 0 where
   pub of : IsOf engine job.pass.1
   pub there : AllThere job.pass.1

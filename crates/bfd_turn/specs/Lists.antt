@@ -1,12 +1,12 @@
--- Words on lists: beginnings, the longer of two, and the numbers in a list.
+-- Words on lists: prefixes, the longer of two, and the numbers in a list.
 use Rattle.std.specs.Prelude.{◌≡◌, ℕ, Bool, false, ◌||◌, ◌==◌, nat_le, if◌then◌else◌, List, [], ◌∷◌, ◌++◌, length, filter, map}
 
 module _ {N : Type 0} where
-  -- `seen` stands at the front of `history`
+  -- `seen` is a prefix of `history`
   abbrev pub Begins : List N → List N → Type 0
   Begins seen history = (rest : List N) × (history ≡ seen ++ rest)
 
-  -- the longer of two lists, and the first where neither is longer
+  -- the longer of two lists, and the first if neither is longer
   abbrev pub longer : List N → List N → List N
   longer xs ys = if nat_le (length ys) (length xs) then xs else ys
 

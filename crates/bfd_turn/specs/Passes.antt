@@ -19,7 +19,7 @@ module _ {N B : Type 0} where
     joined = [];
   }
 
-  -- caller 0, once it has made the pass n
+  -- caller 0, after it has made the pass n
   abbrev pub having_made : ℕ → Known N B → Known N B
   having_made n v = record v { made = v.made ++ n ∷ [] }
 
@@ -27,7 +27,7 @@ module _ {N B : Type 0} where
   abbrev pub made_by : ℕ → Known N B → Known N B
   made_by n v = record { number = n; base = v.base; seen = v.seen; word = v.word; looks = []; taken = 0; made = []; joined = [] }
 
-  -- caller 0 at the word n of its load, once it has taken in another pass: it has seen the longer list, and keeps the other's number and
+  -- caller 0 at the word n of its load, after it has joined another pass: it has seen the longer list, and keeps the other's number and
   -- calls
   abbrev pub having_joined : (N → ℕ) → ℕ → Known N B → Known N B → Known N B
   having_joined by n v w = record v {
@@ -67,7 +67,7 @@ module _ {V N B : Type 0} where
     pub adds : Adds by v.number v.seen (notes x)
     pub kept : AllKept by v.joined (notes x)
 
-  -- since the turn was taken the value has got no note, or one note of the caller
+  -- since the turn was taken, no note was added to the value, or one note of the caller
   abbrev pub Grows : (V → List N) → (N → ℕ) → Known N B → V → Type 0
   Grows notes by v x = (notes x ≡ v.seen) ⊎ ((note : N) × (notes x ≡ v.seen ++ note ∷ []) × (by note ≡ v.number))
 

@@ -1,4 +1,4 @@
--- What each step on the lock's word tells its caller.
+-- What each step on the lock's word shows its caller.
 use Rattle.std.specs.Prelude.{◌≡◌, ◌≢◌, ℕ, ◌+◌, ◌^◌, ◌<◌, ◌≤◌, List, [], ◌∷◌, ◌++◌, length, Option, Some, All}
 use Rattle.atomic_table.specs.Table.{Me, Step}
 use Rattle.bfd_turn.specs.declared.view.View.{View}
@@ -18,7 +18,7 @@ module _ {N : Type 0} where
   AllKept by joined notes = All (λ (j : ℕ × List N). calls by j.0 notes ≡ j.1) joined
 
 module _ {N B : Type 0} where
-  -- what a load shows: the word has reached what the view has met, and what the view has seen begins one history
+  -- what a load shows: the word has reached what the view has met, and all that the view has seen is of one history
   pub record Shows (by : N → ℕ) (v : View N B) (n : ℕ) : Type 0 where
     pub reached : v.word ≤ n
     pub room : n + 1 < 2 ^ 64
@@ -30,7 +30,7 @@ module _ {V N B : Type 0} where
   abbrev pub looked : (N → ℕ) → Step (Option V) → Sat V N B → ℕ → Sat V N B → Type 0
   looked by st m n m' = (m' ≡ (having_looked n m.0, m.1)) × Shows by m.0 n
 
-  -- a load that leaves the view
+  -- a load that doesn't change the view
   abbrev pub checked : (N → ℕ) → Step (Option V) → Sat V N B → ℕ → Sat V N B → Type 0
   checked by st m n m' = (m' ≡ m) × Shows by m.0 n
 

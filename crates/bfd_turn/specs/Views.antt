@@ -1,4 +1,4 @@
--- What a seat at the lock's table knows, and what each step makes of it.
+-- What a seat at the lock's table knows, and how each step changes it.
 use Rattle.std.specs.Prelude.{ℕ, ◌+◌, ◌*◌, max, List, [], ◌∷◌, ◌++◌, Some, None}
 use Rattle.bfd_turn.specs.declared.view.View.{View}
 use Rattle.bfd_turn.specs.declared.view.Known.{Known}
@@ -55,7 +55,7 @@ module _ {N B : Type 0} where
     joined = [];
   }
 
-  -- caller 0, once it has made the pass n
+  -- caller 0, after it has made the pass n
   abbrev pub parent : ℕ → View N B → View N B
   parent n v = record v { made = v.made ++ n ∷ [] }
 
@@ -75,7 +75,7 @@ module _ {N B : Type 0} where
     joined = [];
   }
 
-  -- caller 0, once it has taken in another pass
+  -- caller 0, after it has joined another pass
   abbrev pub glued : (N → ℕ) → View N B → View N B → View N B
   glued by v w = record {
     role = v.role;

@@ -13,7 +13,7 @@ pub record Group : Type 0 where
 abbrev pub group : ℕ → List Member → Group
 group need members = record { need = need; members = members }
 
--- a member after a change: it is Up where its own session has come Up, and isn't where that has left Up
+-- a member after a change: it is Up if its own session has come Up, and isn't if that has left Up
 abbrev pub heard : Member → Change → Member
 heard member change = record member { up = if change.discr == member.discr then is_up change.«new» else member.up }
 

@@ -23,20 +23,20 @@ up_word false = codes "down"
 abbrev pub group_line : ℕ → Group → List ℕ
 group_line number g = line (decimal number ∷ codes "group" ∷ decimal (count_up g) ∷ up_word (is_group_up g) ∷ [])
 
--- a text that stands only where a group that was up, or wasn't, is so no longer
+-- a text that is present only if a group has gone up or down
 abbrev pub if_moved : Bool → Bool → List ℕ → List ℕ
 if_moved true true text = []
 if_moved false false text = []
 if_moved before after text = text
 
 -- the lines of the event of this number, which has these changes and finds the group so: a line for each change, of members
--- and of others, and then the group's where the event as a whole has moved it
+-- and of others, and then the group's line if the event as a whole has moved it
 abbrev pub watched_lines : ℕ → List Change → Group → List ℕ
 watched_lines number changes g =
     flat_map (change_line number) changes
     ++ if_moved (is_group_up g) (is_group_up (group_after changes g)) (group_line number (group_after changes g))
 
--- the lines of all events from this number on, by what each gave
+-- the lines of all events from this number on, by the outcome of each
 unfoldable pub watched_lines_from : ℕ → List Outcome → Group → List ℕ
 watched_lines_from number [] g = []
 watched_lines_from number (outcome ∷ outcomes) g =
@@ -47,7 +47,7 @@ watched_lines_from number (outcome ∷ outcomes) g =
 abbrev pub watched_line : ℕ → Group → List ℕ
 watched_line changes g = line (codes "watched" ∷ decimal changes ∷ decimal (count_up g) ∷ up_word (is_group_up g) ∷ [])
 
--- the watched text of a run whose events gave this, one after another, with a group that is so at the start
+-- the watched text of a run whose events have these outcomes, one after another, with a group that is so at the start
 abbrev pub watched : List Outcome → Group → List ℕ
 watched outcomes g =
     watched_lines_from 1 outcomes g ++ watched_line (length (changes_from 1 outcomes)) (group_after (changes_from 1 outcomes) g)

@@ -10,8 +10,8 @@ use Rattle.bfd_watch.specs.declared.change.WatchFault.{WatchFault}
 use Rattle.bfd_watch.specs.declared.change.WatchFault.TheVariants.{Full, Memory}
 use Rattle.bfd_watch.specs.Changes.{changes_in}
 
--- a watch, as its callers see it: the configurations of the shard that is followed, the entries that were taken, and how many
--- may be
+-- a watch, as its callers see it: the configurations of the shard that is followed, the entries received, and the limit on
+-- their number
 pub record Watching : Type 0 where
   pub configs : List SessionConfig
   pub entries : List Entry
@@ -25,12 +25,12 @@ pub record IsWatch (shard : Shard) (outs : Outputs) (limit : ℕ) : Type 0 where
   pub room : outs.room ≡ 5 * length shard.sessions + 5
   pub limits : shard.limit ≡ limit
 
--- what a refusal tells of the watch: it is full, with this number of entries, which is its limit; or memory ran out below it
+-- what a refusal says of the watch: it is full, with this number of entries, which is its limit; or it ran out of memory below that
 abbrev pub TellsOfWatch : WatchFault → Watching → Type 0
 TellsOfWatch (Full count) watch = (count ≡ length watch.entries) × (length watch.entries ≡ watch.limit)
 TellsOfWatch Memory watch = length watch.entries < watch.limit
 
--- the changes that one entry more tells: those of its outputs, of the sessions as the entries before have left them
+-- the changes that one more entry reports: those of its outputs, of the sessions as the entries before have left them
 abbrev pub told_by : Watching → Entry → List Change
 told_by watch entry =
     changes_in (length watch.entries + 1)

@@ -23,7 +23,7 @@ pub record IsRing (n all : ℕ) (due home next prev rank : ℕ → ℕ) : Type 0
   pub one : (j k : ℕ) → rank j ≡ rank k → j < n → j ≡ k
   pub no_gap : (c j : ℕ) → IsOn all due c → IsOn all due j → home j ≡ home c → (c < n → rank j < rank c) → rank j ≤ rank (next c)
 
--- the same with some rank, which top bounds
+-- the same with some rank, of which top is a bound
 pub record IsRanked (n all : ℕ) (due home next prev : ℕ → ℕ) : Type 0 where
   pub rank : ℕ → ℕ
   pub top : ℕ

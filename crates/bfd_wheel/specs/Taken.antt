@@ -3,7 +3,7 @@ use Rattle.std.specs.Prelude.{◌≡◌, ◌⊎◌, ℕ, ◌+◌, ◌≤◌, Lis
 use Rattle.std.specs.Prelude.{nat_le}
 use Rattle.bfd_lanes.specs.Places.{never}
 
--- 1 where the two are the same, and else 0
+-- 1 if the two are the same, and else 0
 abbrev pub bit : ℕ → ℕ → ℕ
 bit x y = if nat_eq x y then 1 else 0
 
@@ -12,7 +12,7 @@ abbrev pub times : ℕ → List ℕ → ℕ
 times x [] = 0
 times x (y ∷ ys) = bit x y + times x ys
 
--- 1 where the due tick of the id x is at most t, and else 0
+-- 1 if the due tick of the id x is at most t, and else 0
 abbrev pub counts_due : ℕ → List ℕ → ℕ → ℕ
 counts_due t dues x = if nat_le (slice_index_or dues x never) t then 1 else 0
 
@@ -21,7 +21,7 @@ abbrev pub waiting : ℕ → List ℕ → ℕ
 waiting t [] = 0
 waiting t (d ∷ ds) = (if nat_le d t then 1 else 0) + waiting t ds
 
--- the ids that were appended are those that wait no more, and no other due tick changed
+-- the appended ids are those that no longer wait, and no other due tick changed
 pub record Took (t : ℕ) (dues dues2 items items2 : List ℕ) : Type 0 where
   pub taken : List ℕ
   pub appended : items2 ≡ items ++ taken

@@ -31,7 +31,7 @@ first_dues [] k = []
 first_dues (d ∷ ds) zero = never ∷ first_dues ds zero
 first_dues (d ∷ ds) (suc k) = d ∷ first_dues ds k
 
--- every id with a due tick stands on the one list that its due tick and now name, and an id with none on no list
+-- every id with a due tick stands on the one list that its due tick and now name; an id with none is on no list
 pub record IsWheel (n now : ℕ) (dues : List ℕ) (nodes : List Node) : Type 0 where
   pub few : n ≤ 65536
   pub early : now < 2 ^ 60

@@ -5,7 +5,8 @@ use Rattle.bfdd.specs.declared.job.status.Status.TheVariants.{Done, Usage, BadLi
 use Rattle.bfdd.specs.declared.job.status.Status.TheVariants.{JournalFull, Turns, ClockFault, Memory, NoMember}
 use Rattle.bfdd.specs.Text.{Wanted, complaint_line}
 
--- the text that goes with a status: a faulty line has its complaint, and what is refused before anything ran has none; some no job has
+-- the text that goes with a status: a faulty line has its complaint, and a run that was refused before it began has none. No answer
+-- has the status Usage, ReadFault, WriteFault or Memory
 abbrev pub HasText : Status → List ℕ → Type 0
 HasText Done text = ⊤
 HasText (BadLine line fault) text = text ≡ complaint_line (record { line = line; fault = fault })

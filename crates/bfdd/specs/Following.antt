@@ -1,4 +1,4 @@
--- What clients of an engine's shards are told after an event.
+-- What clients of an engine's shards receive after an event.
 use Rattle.std.specs.Prelude.{ℕ, zero, suc, ◌≡◌, ◌<◌, ◌++◌, List, [], ◌∷◌, length, map, drop, slice_get, nat_lt, if◌then◌else◌, Option}
 use Rattle.std.specs.Prelude.{Some}
 use Rattle.bfd_shard.specs.declared.entry.Entry.{Entry}
@@ -13,20 +13,20 @@ use Rattle.bfd_watch.specs.declared.change.WatchFault.{WatchFault}
 use Rattle.bfd_watch.specs.declared.change.WatchFault.TheVariants as watch
 use Rattle.bfd_watch.specs.Watching.{Watching, watching, told_by}
 
--- the changes that these entries tell, one after another
+-- the changes that these entries report, one after another
 abbrev pub told_after : Watching → List Entry → List Change
 told_after w [] = []
 told_after w (entry ∷ entries) = told_by w entry ++ told_after (record w { entries = w.entries ++ entry ∷ [] }) entries
 
--- a change, told of the event of this number of a script
+-- a change, reported for the event of this number of a script
 abbrev pub of_event : ℕ → Change → Change
 of_event number change = record change { number = number }
 
--- what a watch tells of the event of this number, where its shard's history is now this
+-- what a watch reports for the event of this number, when its shard's history is now this
 abbrev pub news : ℕ → Watching → List Entry → List Change
 news number w seen = map (of_event number) (told_after w (drop (length w.entries) seen))
 
--- of changes the first ones that are of a session with a lower discriminator
+-- the first ones of these changes, as long as their session has a lower discriminator
 abbrev pub lower : ℕ → List Change → List Change
 lower discr [] = []
 lower discr (c ∷ cs) = if nat_lt c.discr discr then c ∷ lower discr cs else []
@@ -36,17 +36,17 @@ abbrev pub not_lower : ℕ → List Change → List Change
 not_lower discr [] = []
 not_lower discr (c ∷ cs) = if nat_lt c.discr discr then not_lower discr cs else c ∷ cs
 
--- two lists of changes as one: each of the first stands behind those of the second that have a lower discriminator
+-- two lists of changes as one: each change of the first comes after those of the second that have a lower discriminator
 abbrev pub merged : List Change → List Change → List Change
 merged [] more = more
 merged (c ∷ cs) more = lower c.discr more ++ c ∷ merged cs (not_lower c.discr more)
 
--- what the first so many shards tell, as one
+-- what the first so many shards report, as one
 abbrev pub merged_of : ℕ → (ℕ → List Change) → List Change
 merged_of zero told = []
 merged_of (suc n) told = merged (merged_of n told) (told n)
 
--- this is the watch of a shard, and it has taken a beginning of what a caller has seen of it
+-- this is the watch of a shard, and it has received a prefix of what a caller has seen of the shard
 pub record IsBehind (engine : Shards) (limit : ℕ) (k : Knows) (r : ℕ) (found : Option Watching) : Type 0 where
   pub before : List Entry
   pub is : found ≡ Some (watching (configs_at engine r) before limit)
@@ -56,18 +56,18 @@ pub record AreBehind (engine : Shards) (limit : ℕ) (k : Knows) (watches : List
   pub long : length watches ≡ length engine.locks
   pub each : (r : ℕ) → r < length engine.locks → IsBehind engine limit k r (slice_get watches r)
 
--- a watch of each shard has taken what a caller has seen of it
+-- a watch of each shard has received what a caller has seen of the shard
 pub record AreWatched (engine : Shards) (limit : ℕ) (k : Knows) (watches : List Watching) : Type 0 where
   pub long : length watches ≡ length engine.locks
   pub each : (r : ℕ) → r < length engine.locks → slice_get watches r ≡ Some (watching (configs_at engine r) (seen_at k r) limit)
 
--- why a watch didn't take all entries that a caller has seen of a shard
+-- why a watch didn't receive all entries that a caller has seen of a shard
 abbrev pub IsUntaken : EngineFault → Shards → ℕ → ℕ → Knows → Type 0
 IsUntaken Memory engine limit shard l = Unit {0}
 IsUntaken (Full at n) engine limit shard l = (at ≡ shard) × (limit < length (seen_at l shard))
 IsUntaken (Spent at word) engine limit shard l = (at ≡ shard) × (met_word l shard ≡ last_word)
 
--- why some of these entries weren't taken
+-- why some of these entries weren't received
 abbrev pub IsLeft : WatchFault → Watching → List Entry → Type 0
 IsLeft (watch.Full count) w entries = w.limit < length (w.entries ++ entries)
 IsLeft watch.Memory w entries = Unit {0}

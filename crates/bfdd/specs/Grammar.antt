@@ -9,7 +9,7 @@ use Rattle.bfdd.specs.declared.words.job.Job.TheVariants.{Replay, Serve, Load, P
 use Rattle.bfdd.specs.Numbers.{number_in}
 use Rattle.bfdd.specs.Options.{◌>>=◌, are_options, number_option, timers_of}
 
--- the options of every word that runs on hands, and those of `serve`
+-- the options of every command that runs on hands, and those of `serve`
 abbrev pub hands_names : List (List ℕ)
 hands_names = codes "--shards" ∷ codes "--workers" ∷ codes "--timers" ∷ []
 
@@ -24,7 +24,7 @@ hands_of workers options = do
   timers ← timers_of options
   Some (record { shards = shards; workers = workers; timers = timers })
 
--- what follows, where the words are options of these names
+-- what follows, if the words are options of these names
 abbrev pub with_options : List (List ℕ) → List (List ℕ) → Option Job → Option Job
 with_options names words job = if are_options names words then job else None
 
@@ -71,7 +71,7 @@ member_of word = number_in 1 4294967295 word
 abbrev pub leading : List (List ℕ) → List ℕ
 leading words = filter_map member_of (take_while (λ word. is_some (member_of word)) words)
 
--- no number is there twice
+-- no number is present twice
 abbrev pub are_distinct : List ℕ → Bool
 are_distinct [] = true
 are_distinct (first ∷ numbers) = not (list_any (λ other. other == first) numbers) && are_distinct numbers
@@ -91,7 +91,7 @@ abbrev pub watch_of : List (List ℕ) → Option Job
 watch_of [] = None
 watch_of (need ∷ words) = watch_by need (leading words) (drop (length (leading words)) words)
 
--- the first word says which
+-- the job that the first word names
 abbrev pub job_of : List (List ℕ) → Option Job
 job_of [] = None
 job_of (word ∷ words) =

@@ -1,4 +1,4 @@
--- A link group over the sessions of a script, and what is told of it.
+-- A link group over the sessions of a script, and what is reported of it.
 use Rattle.std.specs.Prelude.{ℕ, ◌==◌, ◌&&◌, Bool, not, Option, List, map, find}
 use Rattle.std.specs.List.{list_any}
 use Rattle.bfd_rules.specs.Quantities.{is_up}

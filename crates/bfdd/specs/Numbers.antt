@@ -8,7 +8,7 @@ use Rattle.std.specs.Str.Parse.{digits_value}
 abbrev pub is_number : List ℕ → Bool
 is_number word = list_all is_ascii_digit word && nat_lt 0 (length word) && not (nat_lt 1 (length word) && slice_index word 0 == 48)
 
--- the number that a word writes, where it is one of a range
+-- the number that a word spells, if it is one of a range
 abbrev pub number_in : ℕ → ℕ → List ℕ → Option ℕ
 number_in least most word =
     if is_number word && nat_le least (digits_value 10 word) && nat_le (digits_value 10 word) most

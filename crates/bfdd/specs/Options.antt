@@ -24,7 +24,7 @@ values_of name [] = []
 values_of name (first ∷ []) = []
 values_of name (first ∷ value ∷ words) = if bytes_eq first name then value ∷ values_of name words else values_of name words
 
--- the one value, if there is one; nothing where there are more
+-- the one value, if there is one; nothing if there are more
 abbrev pub at_most_one : List (List ℕ) → Option (Option (List ℕ))
 at_most_one [] = Some None
 at_most_one (value ∷ []) = Some (Some value)
@@ -33,7 +33,7 @@ at_most_one (value ∷ other ∷ values) = None
 abbrev pub value_of : List ℕ → List (List ℕ) → Option (Option (List ℕ))
 value_of name options = at_most_one (values_of name options)
 
--- the default where an option isn't given, and what its value is read as where it is
+-- the default if an option isn't given, and else what its value is read as
 abbrev pub read_as : {X : Type 0} → (List ℕ → Option X) → X → Option (List ℕ) → Option X
 read_as read default None = Some default
 read_as read default (Some value) = read value

@@ -1,4 +1,4 @@
--- What was taken from a source, where it tells.
+-- What was read from a source, if that is observed.
 use Rattle.std.specs.Prelude.{ℕ, ◌≤◌, List, length, Option}
 use Rattle.std.specs.Io.KnownBytes.{Consumes}
 

@@ -1,4 +1,4 @@
--- What `serve` comes to, by what its outside tells before and after.
+-- The results of `serve`, by what is observed of its outside before and after.
 use Rattle.std.specs.Prelude.{◌≡◌, ◌⊎◌, ◌<◌, ◌≤◌, ℕ, true, List, length, IfSome, Option, Ok, Err}
 use Rattle.std.specs.Io.KnownBytes.{Consumes, IsAtEnd}
 use Rattle.bfd_edge.specs.Faults.{Rose}
@@ -39,7 +39,7 @@ limits_of turns ticks = record { turns = turns; ticks = ticks }
 abbrev pub job_by : Numbers → Job
 job_by n = Serve n.hands n.turns n.ticks n.journal
 
--- what a run's ports and its ticker tell
+-- what is observed of a run's ports and its ticker
 pub record Edges : Type 0 where
   pub ports : PortsTold
   pub ticker : TickerTold
@@ -54,7 +54,7 @@ IsRunOf (Serve hands turns ticks journal) script old new states text lost end =
     × HasRun script hands.shards hands.workers journal (limits_of turns ticks) new.ports old.ticker new.ticker states text lost end
 IsRunOf job script old new states text lost end = ⊥
 
--- the script was served, and this is to be told of it: the served text of the closed shards, under the status of the finish
+-- the script was served, and this is the result: the served text of the closed shards, and the status of the finish
 pub record IsServed (job : Job) (script : Lists) (old new : Edges) (w : Wanted) : Type 0 where
   pub states : List Shard
   pub lost : ℕ
@@ -62,16 +62,16 @@ pub record IsServed (job : Job) (script : Lists) (old new : Edges) (w : Wanted) 
   pub run : IsRunOf job script old new states w.text lost end
   pub status : w.status ≡ status_of end
 
--- a port couldn't be opened, and nothing is to be told
+-- a port couldn't be opened, and there is no text
 pub record IsPortless (old new : Edges) (w : Wanted) : Type 0 where
   pub nothing : w ≡ bare PortFault
   pub refused : IsLinkRefused refused.PortFault old.ports new.ports old.ticker new.ticker
 
--- what comes of a script
+-- the result of a script
 abbrev pub Comes : Job → Lists → Edges → Edges → Wanted → Type 0
 Comes job script old new w = IsServed job script old new w ⊎ IsPortless old new w
 
--- a source that was read to its end, and what its bytes spell where packets and ticks come from outside
+-- a source that was read to its end, and the script that its bytes spell when packets and ticks come from outside
 pub record IsLive (left right : Option (List ℕ)) (script : Lists) : Type 0 where
   pub bytes : List ℕ
   pub read : Consumes left right bytes
@@ -79,7 +79,7 @@ pub record IsLive (left right : Option (List ℕ)) (script : Lists) : Type 0 whe
   pub few : length bytes ≤ most_bytes
   pub spelled : script_of true bytes ≡ Ok script
 
--- .. where it is no script
+-- .. if they spell no script
 pub record IsFaulty (left right : Option (List ℕ)) (w : Wanted) : Type 0 where
   pub bytes : List ℕ
   pub read : Consumes left right bytes
@@ -89,7 +89,7 @@ pub record IsFaulty (left right : Option (List ℕ)) (w : Wanted) : Type 0 where
   pub spelled : script_of true bytes ≡ Err bad
   pub complained : w ≡ ends (BadLine bad.line bad.fault) (complaint_line bad)
 
--- .. where it has too many bytes
+-- .. if there are too many bytes
 pub record IsOverlong (left right : Option (List ℕ)) (w : Wanted) : Type 0 where
   pub long : IfSome left (λ bytes. most_bytes < length bytes)
   pub nothing : w ≡ bare TooLarge
@@ -101,18 +101,18 @@ IsUnread left right before now (Told answer) = (IsFaulty left right answer ⊎ I
 IsUnread left right before now Failed = Rose before now
 IsUnread left right before now Memory = now ≡ before
 
--- what `serve` comes to, where it read its script
+-- the result of `serve`, if it read its script
 pub record HasServedScript (job : Job) (left right : Option (List ℕ)) (old new : Edges) (w : Wanted) : Type 0 where
   pub script : Lists
   pub live : IsLive left right script
   pub comes : Comes job script old new w
 
--- .. and where it read none: no link was opened and no tick was asked for
+-- .. and if it read none: no link was opened and no tick was asked for
 pub record HasNoScript (left right : Option (List ℕ)) (old new : Edges) (w : Wanted) : Type 0 where
   pub unread : IsFaulty left right w ⊎ IsOverlong left right w
   pub same : new ≡ old
 
--- of these bytes, where they spell a script: it was served to a finish, which is the status, or there was no memory
+-- if these bytes spell a script, it was served to a finish, which is the status, or memory ran out
 abbrev pub IsServedToFinish : Job → Edges → Edges → Status → List ℕ → Type 0
 IsServedToFinish job old new result bytes =
     length bytes ≤ most_bytes → (script : Lists) → script_of true bytes ≡ Ok script

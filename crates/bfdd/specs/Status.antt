@@ -12,18 +12,18 @@ use Rattle.bfdd.specs.declared.job.status.Status.TheVariants.{JournalFull, Turns
 use Rattle.bfd_replay.specs.Written.{TookFront}
 use Rattle.bfdd.specs.Words.{is_reading, is_serving, is_watching}
 
--- the status where the words can't be had
+-- the status if the words of the command line aren't available
 abbrev pub status_without_words : ErrorKind → Status
 status_without_words OutOfMemory = Memory
 status_without_words kind = Usage
 
--- a fact about the faulty line, where the status names one
+-- a fact about the faulty line, if the status names one
 abbrev pub OnBadLine : Status → (FaultyLine → Type 0) → Type 0
 OnBadLine (BadLine line fault) P = P (record { line = line; fault = fault })
 OnBadLine status P = ⊤
 
--- a run of this job may end so: what comes of a port, a link, a history or the ticker is of a job that serves, a member that names
--- no session of one that watches, and a fault of the source or of its text of one that reads
+-- a run of this job may end so. Only a job that serves ends at a port, a link, a journal, turns or the ticker. Only one that watches
+-- ends at a member that names no session. Only one that reads ends at its source or the source's text
 abbrev pub IsEndOf : Option Job → Status → Type 0
 IsEndOf job PortFault = is_serving job ≡ true
 IsEndOf job (LinkFault number) = is_serving job ≡ true
@@ -36,15 +36,15 @@ IsEndOf job ReadFault = is_reading job ≡ true
 IsEndOf job TooLarge = is_reading job ≡ true
 IsEndOf job status = ⊤
 
--- a status, where another is wanted: it is that one, but when out of memory, for a source that failed, and for a sink that failed under a
--- text that isn't a complaint
+-- a status, when this one is required: it is the required one, except when out of memory, for a source that failed, and for a sink that
+-- failed when Done is required
 abbrev pub IsDecided : Status → Status → Type 0
 IsDecided Memory wanted = ⊤
 IsDecided ReadFault wanted = ⊤
 IsDecided WriteFault wanted = wanted ≡ Done
 IsDecided status wanted = status ≡ wanted
 
--- a fact, but where the status is that of a write that failed, or where a text may have been broken off
+-- a fact, unless the status is that of a write that failed, or of a text that may have been broken off
 abbrev pub UnlessWriting : Status → Type 0 → Type 0
 UnlessWriting WriteFault P = ⊤
 UnlessWriting (BadLine line fault) P = ⊤
@@ -54,7 +54,7 @@ UnlessWriting (Turns number) P = ⊤
 UnlessWriting ClockFault P = ⊤
 UnlessWriting status P = P
 
--- a fact, where nothing is written with the status
+-- a fact, if nothing is written with the status
 abbrev pub WhereUnwritten : Status → Type 0 → Type 0
 WhereUnwritten Usage P = P
 WhereUnwritten ReadFault P = P
@@ -63,7 +63,7 @@ WhereUnwritten TooLarge P = P
 WhereUnwritten (NoMember discr) P = P
 WhereUnwritten status P = ⊤
 
--- a fact, where the status comes before any port is opened
+-- a fact, if the status comes before any port is opened
 abbrev pub WhereUnopened : Status → Type 0 → Type 0
 WhereUnopened Usage P = P
 WhereUnopened ReadFault P = P
@@ -72,7 +72,7 @@ WhereUnopened (BadLine line fault) P = P
 WhereUnopened (NoMember discr) P = P
 WhereUnopened status P = ⊤
 
--- what the sink took of a text: all of it, or a prefix where its count rose
+-- what the sink accepted of a text: all of it, or a prefix if its count rose
 abbrev pub IsWritten : Option (List ℕ) → Option (List ℕ) → ℕ → ℕ → List ℕ → Type 0
 IsWritten old new before now text = Appends old new text ⊎ (Rose before now × TookFront old new text)
 

@@ -1,4 +1,4 @@
--- What a job has to tell, whether or not its source tells what it had.
+-- What a job must report, whether or not the bytes of its source are observed.
 use Rattle.std.specs.Prelude.{◌≡◌, ◌⊎◌, ◌≤◌, ℕ, true, List, length, Option, Some}
 use Rattle.std.specs.Io.KnownBytes.{Consumes, IsAtEnd}
 use Rattle.bfdd.specs.declared.words.job.Job.{Job}
@@ -7,7 +7,7 @@ use Rattle.bfdd.specs.Serving.{Edges, HasNoScript, HasServedScript, IsOverlong}
 use Rattle.bfdd.specs.Text.{Wanted, answer_to, most_bytes}
 use Rattle.bfdd.specs.Words.{reads}
 
--- there are bytes of which this is wanted; a job that reads has read them from the source, to its end
+-- some bytes require this result; a job that reads has read them from the source, to its end
 pub record IsSpelled (job : Job) (left right : Option (List ℕ)) (w : Wanted) : Type 0 where
   pub bytes : List ℕ
   pub read : reads job ≡ true → Consumes left right bytes
@@ -15,11 +15,11 @@ pub record IsSpelled (job : Job) (left right : Option (List ℕ)) (w : Wanted) :
   pub few : length bytes ≤ most_bytes
   pub spelled : answer_to job bytes ≡ Some w
 
--- what a job has to tell that its bytes alone decide
+-- what a job must report, if its bytes alone decide it
 abbrev pub TellsBytes : Job → Option (List ℕ) → Option (List ℕ) → Wanted → Type 0
 TellsBytes job left right w = IsSpelled job left right w ⊎ ((reads job ≡ true) × IsOverlong left right w)
 
--- what a job has to tell
+-- what a job must report
 abbrev pub Tells : Job → Option (List ℕ) → Option (List ℕ) → Edges → Edges → Wanted → Type 0
 Tells (Serve hands turns ticks journal) left right old new w =
     HasServedScript (Serve hands turns ticks journal) left right old new w ⊎ HasNoScript left right old new w

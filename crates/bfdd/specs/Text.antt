@@ -21,7 +21,7 @@ use Rattle.bfdd.specs.Words.{reads}
 abbrev pub most_bytes : ℕ
 most_bytes = 67108864
 
--- what is wanted of a run: its status, and what is written
+-- the required result of a run: its status, and what is written
 pub record Wanted : Type 0 where
   pub status : Status
   pub text : List ℕ
@@ -41,12 +41,12 @@ bare status = ends status []
 abbrev pub complaint_line : FaultyLine → List ℕ
 complaint_line bad = complaint bad ++ 10 ∷ []
 
--- of what is no script its first faulty line is told
+-- a text that is no script has its first faulty line reported
 abbrev pub over : (Lists → Wanted) → Result Lists FaultyLine → Wanted
 over f (Ok script) = f script
 over f (Err bad) = ends (BadLine bad.line bad.fault) (complaint_line bad)
 
--- a watch, by the first member that names no session
+-- the result of a watch, by the first member that names no session
 abbrev pub watched_unless : Option ℕ → List ℕ → Wanted
 watched_unless (Some discr) text = bare (NoMember discr)
 watched_unless None text = done_with text
@@ -59,12 +59,13 @@ abbrev pub load_line : ℕ → Totals → List ℕ
 load_line sessions t =
     line (codes "load" ∷ decimal sessions ∷ decimal t.events ∷ decimal t.txs ∷ decimal t.drops ∷ decimal t.ups ∷ [])
 
--- of a script that packets and ticks come to the bytes alone decide nothing, and of what is no script the first faulty line is told
+-- for a script with packets and ticks from outside, the bytes alone decide nothing; a text that is no script has its first faulty line
+-- reported
 abbrev pub unserved : Result Lists FaultyLine → Option Wanted
 unserved (Ok script) = None
 unserved (Err bad) = Some (ends (BadLine bad.line bad.fault) (complaint_line bad))
 
--- what is wanted of a job, where the source has these bytes and they decide it; a job that doesn't read them has no use for them
+-- the required result of a job, if the source has these bytes and they decide it; a job that doesn't read them ignores them
 abbrev pub answer_to : Job → List ℕ → Option Wanted
 answer_to (Replay hands) bytes = Some (over (λ script. done_with (replayed script)) (script_of false bytes))
 answer_to (Watch need members shards) bytes = Some (over (watch_wanted need members) (script_of false bytes))
@@ -72,7 +73,7 @@ answer_to (Load sessions ticks seed hands) bytes = Some (done_with (load_line se
 answer_to (Pair events seed) bytes = Some (done_with (pair_line seed (schedule seed events)))
 answer_to (Serve hands turns ticks journal) bytes = unserved (script_of true bytes)
 
--- the same, but that a text may be too large
+-- the same, except that a text may be too large
 abbrev pub answer_within : Job → List ℕ → Option Wanted
 answer_within job bytes = if nat_lt most_bytes (length bytes) then Some (bare TooLarge) else answer_to job bytes
 
@@ -80,7 +81,7 @@ abbrev pub of_bytes : Job → Option (List ℕ) → Option Wanted
 of_bytes job (Some bytes) = answer_within job bytes
 of_bytes job None = None
 
--- what is wanted of a job, where the source tells its bytes or they aren't read
+-- the required result of a job, if the bytes of the source are observed or aren't read
 abbrev pub wanted_of : Job → Option (List ℕ) → Option Wanted
 wanted_of job left = if reads job then of_bytes job left else answer_to job []
 

@@ -35,7 +35,7 @@ abbrev pub is_watching : Option Job → Bool
 is_watching (Some job) = watches job
 is_watching None = false
 
--- a fact about the job that is asked for, where it serves
+-- a fact about the job that is asked for, if it serves
 abbrev pub OfServing : Option Job → (Job → Type 0) → Type 0
 OfServing (Some (Serve hands turns ticks journal)) P = P (Serve hands turns ticks journal)
 OfServing job P = Unit {0}

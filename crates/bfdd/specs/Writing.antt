@@ -1,4 +1,4 @@
--- What comes of writing an answer: the status, what the sink took, and its count of faults.
+-- The result of writing an answer: the status, what the sink accepted, and its count of faults.
 use Rattle.std.specs.Prelude.{◌≡◌, ◌≢◌, ◌⊎◌, ℕ, List, [], Option}
 use Rattle.std.specs.Io.KnownBytes.{Appends}
 use Rattle.bfd_edge.specs.Faults.{Rose}
@@ -7,7 +7,7 @@ use Rattle.bfdd.specs.declared.job.status.Status.TheVariants.{Done, WriteFault, 
 use Rattle.bfd_replay.specs.Written.{TookFront}
 use Rattle.bfdd.specs.Text.{Wanted}
 
--- the status where the sink failed: a faulty line that wasn't told whole is still one
+-- the status if the sink failed: every status but Done stays as it was
 abbrev pub broken_off : Status → Status
 broken_off Done = WriteFault
 broken_off status = status
@@ -39,7 +39,7 @@ pub record LacksMemory (w : Wanted) (result : Status) (old new : Option (List �
   pub front : TookFront old new w.text
   pub calm : now ≡ before
 
--- the four ways in which that ends
+-- the four results
 abbrev pub Writes : Wanted → Status → Option (List ℕ) → Option (List ℕ) → ℕ → ℕ → Type 0
 Writes w result old new before now =
     (WritesNothing w result old new before now ⊎ WritesAll w result old new before now)
