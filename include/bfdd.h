@@ -12,9 +12,9 @@
  * start, at most 1,152,921,504,606,846. Intervals are microseconds. Numbers are in the machine's order, the bytes of
  * addresses in network order.
  *
- * ERRORS. A call answers BFDD_DONE, or why it did nothing: then the engine is as it was, and so is every struct but for a
- * complaint about a text and what bfdd_packets reports. That a packet is dropped or a command refused is an answer and no error: see
- * bfdd_answer.
+ * ERRORS. A call answers BFDD_DONE, or why it did nothing: then the engine is as it was, and so is every struct but a complaint about a
+ * text. bfdd_packets may have handled some packets before, and reports how many. That a packet is dropped or a command refused is an
+ * answer and no error: see bfdd_answer.
  *
  * SIZES. A struct that may get fields in a later version begins with its size: the caller writes sizeof there, as its macro does
  * (BFDD_OUTPUT_INIT), and each element of an array has its own. A size that the library doesn't know is answered by BFDD_SIZE, and nothing
@@ -51,7 +51,7 @@ extern "C" {
 #endif
 
 /* The version of this header. What is compiled with it runs with a library of the same major version, and of this minor version or a
- * later one: bfdd_version() >= BFDD_VERSION. */
+ * later one: bfdd_version() >> 16 == BFDD_VERSION_MAJOR && bfdd_version() >= BFDD_VERSION. */
 #define BFDD_VERSION_MAJOR 2
 #define BFDD_VERSION_MINOR 0
 #define BFDD_VERSION (BFDD_VERSION_MAJOR * 65536 + BFDD_VERSION_MINOR)
@@ -149,15 +149,17 @@ uint32_t bfdd_open_session(bfdd_handle *handle, const bfdd_session *session);
 /* Sessions and reflectors come and go in an open handle: the others, their timers and the outputs that weren't read stay as they
  * are. The time is linear in the sessions; no event's is.
  *
- * One session more. It starts at the last tick, so that the next tick sends its first packet. BFDD_CLOSED, BFDD_SIZE, BFDD_RANGE,
+ * One more session, with the variables of the start, at moment 0. An active session sends its first packet at the next tick, once the
+ * clock is past its first interval, a second or the Desired Min TX Interval if that is greater. BFDD_CLOSED, BFDD_SIZE, BFDD_RANGE,
  * BFDD_FULL, BFDD_TAKEN_DISCR, BFDD_TAKEN_ADDRESSES, BFDD_MEMORY. */
 uint32_t bfdd_add(bfdd_handle *handle, const bfdd_session *session);
 
-/* The session of this discriminator leaves, and sends its peer nothing: for that it is disabled before, which makes it send
- * AdminDown. BFDD_CLOSED, BFDD_NOT_FOUND. */
+/* The session of this discriminator leaves, and sends its peer nothing. Disable it before, which makes it send AdminDown, and remove it
+ * a Detection Time later: a peer that misses the only packet takes the path as failed (RFC 5880 section 6.8.16). Its state is lost: added
+ * again, it knows nothing of the peer. BFDD_CLOSED, BFDD_NOT_FOUND. */
 uint32_t bfdd_remove(bfdd_handle *handle, uint32_t discr);
 
-/* One reflector more (RFC 7880 section 7.2), of this discriminator, from 1, and Required Min RX Interval, 10,000 to 60,000,000: its
+/* One more reflector (RFC 7880 section 7.2), of this discriminator, from 1, and Required Min RX Interval, 10,000 to 60,000,000: its
  * answers say Up where `up` is 1, AdminDown where it is 0. BFDD_CLOSED, BFDD_RANGE, BFDD_FULL, BFDD_TAKEN_DISCR, BFDD_MEMORY. */
 uint32_t bfdd_add_reflector(bfdd_handle *handle, uint32_t discr, uint32_t rx, uint32_t up);
 
@@ -265,8 +267,10 @@ typedef struct {
 /* What the last event was answered; after bfdd_packets the last packet that was handled. BFDD_CLOSED, BFDD_SIZE. */
 uint32_t bfdd_answer(bfdd_handle *handle, bfdd_answered *answer);
 
-/* A look at a session. What there is none of is 0. The peer's values are those of the last control packet that the session accepted, and
- * before that those of a new session; of a head, which hears nothing, they stay so. */
+/* A look at a session. What there is none of is 0, and so is a moment 0. The peer's values are those of the last control packet that the
+ * session stored: one that it accepted, or that it dropped in AdminDown alone. Before that they are those of a new session. An initiator
+ * keeps of the peer its state, Required Min RX and diagnostic, a tail its state, Desired Min TX, Detect Mult and diagnostic, a head
+ * nothing. */
 typedef struct {
     uint32_t size; /* sizeof(bfdd_session_state) */
     uint32_t discr;
@@ -282,15 +286,15 @@ typedef struct {
     uint8_t peer_mult;    /* its Detect Mult, */
     uint8_t peer_diag;    /* its diagnostic, */
     uint8_t peer_demand;  /* and 1 where its demand mode is on */
-    uint64_t detect;
-    uint64_t detect_end;  /* when the Detection Time ends, if it runs */
-    uint64_t heard;       /* the moment of the last control packet that the session accepted */
+    uint64_t detect;      /* the Detection Time of asynchronous mode, also in demand mode */
+    uint64_t detect_end;  /* when the Detection Time in use ends, if one runs */
+    uint64_t heard;       /* the moment of the last control packet that the session stored */
     uint64_t changed;     /* the moment of the last change of its state */
     uint64_t received;    /* packets that came to it since it was made, echo packets and those that it dropped too */
     uint64_t sent;        /* packets that it sent, echo packets too */
     uint64_t ups;         /* changes of its state to Up */
-    uint64_t downs;       /* changes of its state to Down */
-    uint64_t dropped[25]; /* packets that came to it and were discarded, by enum bfdd_drop */
+    uint64_t downs;       /* changes of its state to Down, from AdminDown too */
+    uint64_t dropped[25]; /* packets that came to it and were discarded, by enum bfdd_drop: those before it was selected count nowhere */
 } bfdd_session_state;
 
 #define BFDD_SESSION_STATE_INIT \
@@ -324,7 +328,7 @@ typedef struct {
 uint32_t bfdd_next(bfdd_handle *handle, bfdd_output *output);
 
 /* The least tick that is needed next: none below it does anything. It may lie at or below the last tick; then the next tick
- * does what is due. It changes with each event. BFDD_CLOSED; BFDD_END where none is needed before the next event. */
+ * does what is due. It changes with each event, and with bfdd_add and bfdd_remove. BFDD_CLOSED; BFDD_END where none is needed before the next event. */
 uint32_t bfdd_due(bfdd_handle *handle, uint64_t *ms);
 
 /* Many in one call -------------------------------------------------------------------------------------------------------- */

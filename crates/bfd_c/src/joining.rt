@@ -26,7 +26,7 @@ fn join(alloc: Global, engine: &mut Engine, fields: &Fields) -> u32
     }
 }
 
-/// One more session, which starts at the last tick. Nothing else changes: outputs that weren't read and the answer stay.
+/// One more session, with the variables of the start. Nothing else changes: outputs that weren't read and the answer stay.
 ///
 /// 1 comes if and only if the handle is closed; 11 iff it's open and the struct's size isn't known; 3 iff neither comes
 /// and a value that the kind uses is outside its range; 9, 7 and 8 iff none of these comes and, in this order, there are 65,536

@@ -47,7 +47,7 @@ pub enum HoldFault {
 impl<W: Timers> Engine<W> {
     /// The turn of a shard, whose number is below `shards()`, if nobody has it. It doesn't wait.
     ///
-    /// Busy comes if and only if the word read is odd or the exchange finds another word, and Spent iff the word read
+    /// Busy comes only where the word read is odd or the exchange finds another word, and Spent only where the word read
     /// is 2^64 - 2. Either way all is as before but the last word that the pass has met: where no turn was held, none is.
     pub fn try_hold(&self, pass: &mut EnginePass, shard: u32) -> Result<Hold<W>, HoldFault>
         requires of { IsOf self.now pass.old.1 }

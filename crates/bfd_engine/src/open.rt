@@ -160,8 +160,8 @@ impl<W: Timers> Engine<W> {
     /// discriminator, and each configuration is within its ranges. Session k of the list lives in shard k % shards, at place
     /// k / shards, and each shard's journal accepts `limit` entries.
     ///
-    /// Build comes if and only if the rows of the sessions, and then of the reflectors, make no table, with what is wrong with them; Memory
-    /// only when out of memory.
+    /// Build comes only where the rows of the sessions, and then of the reflectors, make no table, with what is wrong with them; Memory
+    /// only when out of memory, also in the place of Build.
     pub fn open(
         alloc: Global,
         configs: Vec<SessionConfig>,

@@ -49,7 +49,7 @@ turned sessions pool last items answer = turn_giving (world_of sessions pool las
 abbrev pub opened : List SessionConfig → List Reflector → World
 opened configs pool = world_of (map started configs) pool 0
 
--- the world with one more session, of this configuration: it stands in the order of discriminators and starts at the last tick
+-- the world with one more session, of this configuration: it stands in the order of discriminators, with the variables of the start
 abbrev pub world_with : SessionConfig → World → World
 world_with config w = record w { sessions = insert w.sessions (place_for (discr_of config) (configs_of w.sessions)) (started config) }
 

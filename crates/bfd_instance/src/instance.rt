@@ -153,8 +153,8 @@ impl<W: Timers> Instance<W> {
         pass::<W, Brand>(&mut self.sessions, t, &mut self.outs, Blank::new(1))
     }
 
-    /// One more session, of this configuration, which is within its ranges: it starts at the last tick. Answers its place. Nothing else
-    /// changes, the outputs of the last event neither. A fault says why it isn't added, and then nothing has changed; `Memory` comes only
+    /// One more session, of this configuration, which is within its ranges. Its variables are those of the start, at moment 0, and its
+    /// events are no earlier than the last tick. Answers its place. Nothing else changes, the outputs of the last event neither. A fault says why it isn't added, and then nothing has changed; `Memory` comes only
     /// when out of memory, and where no other fault is. Takes time linear in the sessions and reflectors.
     pub fn add(&mut self, alloc: Global, config: SessionConfig) -> Result<u32, AddFault>
         requires { IsFit config }

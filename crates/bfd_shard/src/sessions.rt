@@ -227,8 +227,8 @@ impl<W: Timers> Sessions<W> {
         })
     }
 
-    /// One more session, of this configuration, which is within its ranges: it stands at `place` and starts at the last tick, and
-    /// those that stood there and behind it move up by one. Nothing else changes. Fails only when out of memory, and then nothing
+    /// One more session, of this configuration, which is within its ranges: it stands at `place`, with the variables of the start, and
+    /// those that stood there and after it move up by one. Nothing else changes. Fails only when out of memory, and then nothing
     /// has changed. Takes time linear in the sessions.
     #[tactic(auto, using(crate::proofs::Moves::dues_in))]
     pub fn add(

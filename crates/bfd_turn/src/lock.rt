@@ -118,7 +118,7 @@ impl<V: Recorded> TurnLock<V> {
 
     /// One try at a turn, by one load and at most one exchange. It doesn't wait.
     ///
-    /// Busy comes if and only if the word read is odd or the exchange finds another word, and Spent iff the word read is 2^64 - 2.
+    /// Busy comes only where the word read is odd or the exchange finds another word, and Spent only where the word read is 2^64 - 2.
     /// Either way the pass comes back with the word read as that of its one more load and the last word met, and all else as it was.
     pub fn try_turn(
         &self,
@@ -171,7 +171,7 @@ impl<V: Recorded> TurnLock<V> {
         }
     }
 
-    /// A turn, tried again until its exchange wins. It may wait. Spent comes if and only if the word read is 2^64 - 2.
+    /// A turn, tried again until its exchange wins. It may wait. Spent comes only where the word read is 2^64 - 2.
     pub fn turn<R: Wait>(
         &self,
         rt: &R,
