@@ -328,7 +328,8 @@ typedef struct {
 uint32_t bfdd_next(bfdd_handle *handle, bfdd_output *output);
 
 /* The least tick that is needed next: none below it does anything. It may lie at or below the last tick; then the next tick
- * does what is due. It changes with each event, and with bfdd_add and bfdd_remove. BFDD_CLOSED; BFDD_END where none is needed before the next event. */
+ * does what is due. It changes with each event, and with bfdd_add and bfdd_remove. BFDD_CLOSED; BFDD_END where none is needed before the
+ * next event. */
 uint32_t bfdd_due(bfdd_handle *handle, uint64_t *ms);
 
 /* Many in one call -------------------------------------------------------------------------------------------------------- */
