@@ -4,7 +4,7 @@ use Rattle.std.specs.Prelude.{IfSome}
 use Rattle.bfd_num.specs.Numbers.{moment_bound}
 use Rattle.bfd_rules.specs.Quantities.{poll_started}
 use Rattle.bfd_session.specs.declared.event.SessionConfig.{SessionConfig}
-use Rattle.bfd_session.specs.declared.event.SessionConfig.TheVariants.{Pair, Seek, Head, Tail}
+use Rattle.bfd_session.specs.declared.event.SessionConfig.TheVariants.{Pair, Initiator, Head, Tail}
 use Rattle.bfd_session.specs.Kinds.{Running}
 use Rattle.bfd_session.specs.Step.{IsSound, sound_by}
 use Rattle.bfd_c.specs.declared.records.kept.Kind.TheVariants as kinds
@@ -19,16 +19,16 @@ pair_moments s sound kind = by s.config sound kind
   where
     by : (c : SessionConfig) → sound_by c s → kinds.Pair ≡ session_kind c → HasMoments s
     by (Pair c) sound kind = record { heard = sound.vars.steady.plain.heard_below; poll = sound.vars.steady.plain.poll_below }
-    by (Seek c) sound kind = absurd (cc)
+    by (Initiator c) sound kind = absurd (cc)
     by (Head c) sound kind = absurd (cc)
     by (Tail c) sound kind = absurd (cc)
 
-pub seek_heard : (s : Running) → IsSound s → kinds.Seek ≡ session_kind s.config → IfSome s.vars.heard (λ m. m < moment_bound)
-seek_heard s sound kind = by s.config sound kind
+pub initiator_heard : (s : Running) → IsSound s → kinds.Initiator ≡ session_kind s.config → IfSome s.vars.heard (λ m. m < moment_bound)
+initiator_heard s sound kind = by s.config sound kind
   where
-    by : (c : SessionConfig) → sound_by c s → kinds.Seek ≡ session_kind c → IfSome s.vars.heard (λ m. m < moment_bound)
+    by : (c : SessionConfig) → sound_by c s → kinds.Initiator ≡ session_kind c → IfSome s.vars.heard (λ m. m < moment_bound)
     by (Pair c) sound kind = absurd (cc)
-    by (Seek c) sound kind = sound.vars.steady.plain.heard_below
+    by (Initiator c) sound kind = sound.vars.steady.plain.heard_below
     by (Head c) sound kind = absurd (cc)
     by (Tail c) sound kind = absurd (cc)
 
@@ -37,6 +37,6 @@ tail_heard s sound kind = by s.config sound kind
   where
     by : (c : SessionConfig) → sound_by c s → kinds.Tail ≡ session_kind c → IfSome s.vars.heard (λ m. m < moment_bound)
     by (Pair c) sound kind = absurd (cc)
-    by (Seek c) sound kind = absurd (cc)
+    by (Initiator c) sound kind = absurd (cc)
     by (Head c) sound kind = absurd (cc)
     by (Tail c) sound kind = sound.vars.heard_below

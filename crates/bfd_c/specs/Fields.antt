@@ -7,7 +7,7 @@ use Rattle.bfd_rules.specs.declared.config.Role.{Role}
 use Rattle.bfd_rules.specs.declared.config.Role.TheVariants.{Single, Multi}
 use Rattle.bfd_rules.specs.Sound.{is_interval, is_echo_interval}
 use Rattle.bfd_session.specs.declared.event.SessionConfig.{SessionConfig}
-use Rattle.bfd_session.specs.declared.event.SessionConfig.TheVariants.{Pair, Seek, Head, Tail}
+use Rattle.bfd_session.specs.declared.event.SessionConfig.TheVariants.{Pair, Initiator, Head, Tail}
 use Rattle.bfd_script.specs.Secrets.{kind_by, one_key}
 use Rattle.bfd_c.specs.declared.fields.Fields.{Fields}
 use Rattle.bfd_c.specs.Wire.{addr_of}
@@ -63,8 +63,8 @@ pair_by role f (Some local) (Some remote) (Some keys) =
 pair_by role f local remote keys = None
 
 -- an initiator; `other` is the reflector's discriminator (RFC 7880)
-abbrev pub seek_by_fields : Fields → Addr → Addr → SessionConfig
-seek_by_fields f local remote = Seek (record {
+abbrev pub initiator_by_fields : Fields → Addr → Addr → SessionConfig
+initiator_by_fields f local remote = Initiator (record {
   discr = f.discr;
   target = f.other;
   iface = f.iface;
@@ -75,10 +75,10 @@ seek_by_fields f local remote = Seek (record {
   seed = f.seed;
 })
 
-abbrev pub seek_by : Fields → Option Addr → Option Addr → Option SessionConfig
-seek_by f (Some local) (Some remote) =
-    if has_name f && (has_sending f && nat_le 1 f.other) then Some (seek_by_fields f local remote) else None
-seek_by f local remote = None
+abbrev pub initiator_by : Fields → Option Addr → Option Addr → Option SessionConfig
+initiator_by f (Some local) (Some remote) =
+    if has_name f && (has_sending f && nat_le 1 f.other) then Some (initiator_by_fields f local remote) else None
+initiator_by f local remote = None
 
 -- a head; `remote` is the group (RFC 8562)
 abbrev pub head_with : Fields → Addr → Addr → SessionConfig
@@ -117,7 +117,7 @@ abbrev pub config_of : Fields → Option SessionConfig
 config_of f =
     if f.kind == 1 then pair_by Single f (addr_of f.local) (addr_of f.remote) (keys_from_c f)
     else if f.kind == 2 then pair_by Multi f (addr_of f.local) (addr_of f.remote) (keys_from_c f)
-    else if f.kind == 3 then seek_by f (addr_of f.local) (addr_of f.remote)
+    else if f.kind == 3 then initiator_by f (addr_of f.local) (addr_of f.remote)
     else if f.kind == 4 then head_by f (addr_of f.local) (addr_of f.remote)
     else if f.kind == 5 then tail_by f (addr_of f.local) (addr_of f.remote)
     else None

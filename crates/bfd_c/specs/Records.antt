@@ -16,7 +16,7 @@ use Rattle.bfd_packet.specs.Layout.{fields_of}
 use Rattle.bfd_rules.specs.declared.outputs.Out.{Out}
 use Rattle.bfd_rules.specs.declared.outputs.Out.TheVariants.{Changed, Sent}
 use Rattle.bfd_session.specs.declared.event.SessionConfig.{SessionConfig}
-use Rattle.bfd_session.specs.declared.event.SessionConfig.TheVariants.{Pair, Seek, Head, Tail}
+use Rattle.bfd_session.specs.declared.event.SessionConfig.TheVariants.{Pair, Initiator, Head, Tail}
 use Rattle.bfd_session.specs.declared.event.Answer.{Answer}
 use Rattle.bfd_session.specs.declared.event.Answer.TheVariants.{Dropped}
 use Rattle.bfd_session.specs.Changes.{place_for}
@@ -65,7 +65,7 @@ test_number EchoStale = 24
 -- the kind of a session
 abbrev pub session_kind : SessionConfig → Kind
 session_kind (Pair c) = kinds.Pair
-session_kind (Seek c) = kinds.Seek
+session_kind (Initiator c) = kinds.Initiator
 session_kind (Head c) = kinds.Head
 session_kind (Tail c) = kinds.Tail
 

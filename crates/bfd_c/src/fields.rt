@@ -13,7 +13,7 @@ use crate::wire::{Address, read_address};
 use bfd_mp::{HeadConfig, TailConfig};
 use bfd_packet::{Addr, AuthType, Key, Keys, Secret};
 use bfd_rules::{Config, Role, is_interval};
-use bfd_sbfd::SeekConfig;
+use bfd_sbfd::InitiatorConfig;
 use bfd_session::SessionConfig;
 
 /// A session by its fields: those of a table line, with the same ranges. What the kind doesn't use counts for nothing. Intervals
@@ -196,16 +196,16 @@ fn pair(role: Role, f: &Fields) -> Option<SessionConfig>
 }
 
 /// An initiator of values in their ranges.
-fn seek_by_fields(f: Fields, local: Addr, remote: Addr) -> SessionConfig
+fn initiator_by_fields(f: Fields, local: Addr, remote: Addr) -> SessionConfig
     requires named { HasName f }
     requires sending { HasSending f }
     requires other { 0 < f.other }
     requires local { IsAddress local }
     requires remote { IsAddress remote }
-    ensures value { result ≡ fields.seek_by_fields f local remote }
+    ensures value { result ≡ fields.initiator_by_fields f local remote }
     ensures sound { IsInRanges result }
 {
-    SessionConfig::Seek(SeekConfig {
+    SessionConfig::Initiator(InitiatorConfig {
         discr: f.discr,
         target: f.other,
         iface: f.iface,
@@ -218,8 +218,8 @@ fn seek_by_fields(f: Fields, local: Addr, remote: Addr) -> SessionConfig
 }
 
 /// An initiator.
-fn seek(f: &Fields) -> Option<SessionConfig>
-    ensures value { result ≡ fields.seek_by f.now (addr_of f.now.local) (addr_of f.now.remote) }
+fn initiator(f: &Fields) -> Option<SessionConfig>
+    ensures value { result ≡ fields.initiator_by f.now (addr_of f.now.local) (addr_of f.now.remote) }
     ensures sound { IfSome result IsInRanges }
 {
     let (Some(local), Some(remote)) = (read_address(&f.local), read_address(&f.remote)) else {
@@ -228,7 +228,7 @@ fn seek(f: &Fields) -> Option<SessionConfig>
     if !(has_name(f) && has_sending(f) && f.other >= 1) {
         return None;
     }
-    Some(seek_by_fields(*f, local, remote))
+    Some(initiator_by_fields(*f, local, remote))
 }
 
 /// A head of values in their ranges.
@@ -305,7 +305,7 @@ pub(crate) fn config(f: &Fields) -> Option<SessionConfig>
     match f.kind {
         1 => pair(Role::Single, f),
         2 => pair(Role::Multi, f),
-        3 => seek(f),
+        3 => initiator(f),
         4 => head(f),
         5 => tail(f),
         _ => None,

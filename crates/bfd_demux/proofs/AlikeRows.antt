@@ -2,7 +2,7 @@
 use Rattle.bfd_demux.proofs.Common.{◌≡◌, ℕ, ◌+◌, ◌<◌, Bool, true, false, cond, ◌==◌, ◌&&◌, List, [], ◌∷◌, ◌++◌, length, get_or, take, drop}
 use Rattle.bfd_demux.proofs.Common.{refl, sym, ◌∙◌, ap, arith, Option, Some, None, add-one, drop-cons, add-zero, suc, nat_tests}
 use Rattle.bfd_demux.proofs.Common.{position_from, option_map, option_or, nat_cmp, is_eq, ordering_then, Ordering, Equal, Row, RowKind}
-use Rattle.bfd_demux.proofs.Common.{Single, Multi, Seek, Reflect, Head, Tail, eq_by_cmp_equiv, and_parts, eqb-true, repeat_after}
+use Rattle.bfd_demux.proofs.Common.{Single, Multi, Initiator, Reflect, Head, Tail, eq_by_cmp_equiv, and_parts, eqb-true, repeat_after}
 use Rattle.bfd_demux.proofs.Common.{same_selector, has_addresses, total-law}
 use Rattle.std.proofs.Math.Seq.{take-suc}
 use Rattle.std.proofs.lemmas.Grind.{common_steps}
@@ -135,7 +135,7 @@ same_selector_is a b e = cc
 
 -- a kind without addresses differs from all others
 pub unaddressed : (a b : RowKind) → has_addresses a ≡ false → same_selector a b ≡ false
-unaddressed Seek b h = refl
+unaddressed Initiator b h = refl
 unaddressed Reflect b h = refl
 unaddressed Head b h = refl
 unaddressed a b h = cc

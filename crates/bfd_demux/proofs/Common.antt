@@ -26,7 +26,7 @@ pub use Rattle.bfd_demux.specs.Selection.{table_fails, tail_selector, tests_on_h
 pub use Rattle.bfd_demux.specs.Table.{HasKeysOnce, HasSame, IsAscending, IsPlaceOf, IsSlotFor, how_many}
 pub use Rattle.bfd_demux.specs.declared.row.Row.{Row}
 pub use Rattle.bfd_demux.specs.declared.row.RowKind.{RowKind}
-pub use Rattle.bfd_demux.specs.declared.row.RowKind.TheVariants.{Head, Multi, Reflect, Seek, Single, Tail}
+pub use Rattle.bfd_demux.specs.declared.row.RowKind.TheVariants.{Head, Multi, Reflect, Initiator, Single, Tail}
 pub use Rattle.bfd_packet.specs.HeaderTests.{header_fails, read_of, unless}
 pub use Rattle.bfd_packet.specs.declared.arrival.Port.{Port}
 pub use Rattle.bfd_packet.specs.declared.discard.Test.TheVariants.{EchoForm, MultipointYour, NoSession, NoTail, YourUnknown, YourZeroState}

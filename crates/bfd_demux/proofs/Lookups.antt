@@ -2,7 +2,8 @@
 use Rattle.bfd_demux.proofs.Common.{◌≡◌, ◌<◌, ◌≤◌, ℕ, ◌+◌, Bool, true, false, cond, not, ◌==◌, ◌&&◌, ◌||◌, nat_lt, List, [], ◌∷◌, length}
 use Rattle.bfd_demux.proofs.Common.{map, get_or, refl, sym, ◌∙◌, ap, arith, inl, inr, Option, Some, None, suc, zero, nat_tests, length-map}
 use Rattle.bfd_demux.proofs.Common.{filter, list_any, option_map, nat_cmp, is_eq, is_lt, IsTotalOrder, alike_right, Ordering, cases_eq}
-use Rattle.bfd_demux.proofs.Common.{and_parts, eqb-true, Port, Row, RowKind, Single, Multi, Seek, Reflect, same_selector, has_addresses}
+use Rattle.bfd_demux.proofs.Common.{and_parts, eqb-true, Port, Row, RowKind, Single, Multi, Initiator, Reflect, same_selector}
+use Rattle.bfd_demux.proofs.Common.{has_addresses}
 use Rattle.bfd_demux.proofs.Common.{IsIndex, names_of, addresses_of, row_name, name_in, name_on, names_before, is_heard, heard_on, how_many}
 use Rattle.bfd_demux.proofs.Common.{IsAscending, IsPlaceOf, is_of_kind, row_has_discr, knows, is_session, session_index, reflector_index}
 use Rattle.bfd_demux.proofs.Common.{only, the_one, index_on, Session, Reflector, eq-or-lt_of_le, filter_agree, Name}
@@ -197,7 +198,7 @@ name_test_in : (port : Port) (kind : RowKind) (discr other : ℕ) →
 name_test_in SinglePort (Single _ _ _) discr other = and-true (is_eq (nat_cmp discr other)) ∙ nat_level discr other
 name_test_in EchoPort (Single _ _ _) discr other = and-true (is_eq (nat_cmp discr other)) ∙ nat_level discr other
 name_test_in MultiPort (Multi _ _) discr other = and-true (is_eq (nat_cmp discr other)) ∙ nat_level discr other
-name_test_in AnswerPort Seek discr other = and-true (is_eq (nat_cmp discr other)) ∙ nat_level discr other
+name_test_in AnswerPort Initiator discr other = and-true (is_eq (nat_cmp discr other)) ∙ nat_level discr other
 name_test_in SbfdPort Reflect discr other = and-true (is_eq (nat_cmp discr other)) ∙ nat_level discr other
 name_test_in port kind discr other = and-false (is_eq (name_order.ghosts.cmp (name_in kind discr) (name_on port other)))
 

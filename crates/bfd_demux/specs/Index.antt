@@ -6,7 +6,7 @@ use Rattle.bfd_packet.specs.declared.arrival.Port.TheVariants.{Single as SingleP
 use Rattle.bfd_packet.specs.declared.arrival.Port.TheVariants.{Answer as AnswerPort}
 use Rattle.bfd_demux.specs.declared.row.Row.{Row}
 use Rattle.bfd_demux.specs.declared.row.RowKind.{RowKind}
-use Rattle.bfd_demux.specs.declared.row.RowKind.TheVariants.{Single, Multi, Seek, Reflect}
+use Rattle.bfd_demux.specs.declared.row.RowKind.TheVariants.{Single, Multi, Initiator, Reflect}
 use Rattle.bfd_demux.specs.declared.name.Name.{Name}
 use Rattle.bfd_demux.specs.declared.name.Name.TheVariants.{Session, Reflector}
 use Rattle.bfd_demux.specs.contracts.name.NameOrd.TheImpl as name_order
@@ -38,7 +38,7 @@ names_a_session (Reflector discr) = false
 abbrev pub heard_on : RowKind → Option Port
 heard_on (Single _ _ _) = Some SinglePort
 heard_on (Multi _ _) = Some MultiPort
-heard_on Seek = Some AnswerPort
+heard_on Initiator = Some AnswerPort
 heard_on Reflect = Some SbfdPort
 heard_on _ = None
 

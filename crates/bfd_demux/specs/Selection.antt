@@ -16,7 +16,7 @@ use Rattle.bfd_packet.specs.Layout.{fields_of, word_at}
 use Rattle.bfd_packet.specs.HeaderTests.{header_fails, header_tests, takes_multipoint_of}
 use Rattle.bfd_demux.specs.declared.row.Row.{Row}
 use Rattle.bfd_demux.specs.declared.row.RowKind.{RowKind}
-use Rattle.bfd_demux.specs.declared.row.RowKind.TheVariants.{Single, Multi, Seek, Reflect, Tail}
+use Rattle.bfd_demux.specs.declared.row.RowKind.TheVariants.{Single, Multi, Initiator, Reflect, Tail}
 use Rattle.bfd_demux.specs.declared.target.Target.{Target}
 use Rattle.bfd_demux.specs.declared.target.Target.TheVariants.{Session, Reflector, Echo}
 use Rattle.bfd_demux.specs.Rows.{same_selector}
@@ -28,7 +28,7 @@ abbrev pub is_of_kind : Port → RowKind → Bool
 is_of_kind SinglePort (Single _ _ _) = true
 is_of_kind EchoPort (Single _ _ _) = true
 is_of_kind MultiPort (Multi _ _) = true
-is_of_kind AnswerPort Seek = true
+is_of_kind AnswerPort Initiator = true
 is_of_kind SbfdPort Reflect = true
 is_of_kind _ _ = false
 

@@ -71,7 +71,7 @@ fn neighbour(kind: &RowKind) -> u32 {
     match kind {
         RowKind::Single { remote, .. } | RowKind::Multi { remote, .. } => low_word(remote),
         RowKind::Tail { head, .. } => *head,
-        RowKind::Seek | RowKind::Reflect | RowKind::Head => 0,
+        RowKind::Initiator | RowKind::Reflect | RowKind::Head => 0,
     }
 }
 

@@ -52,7 +52,7 @@ pub fn heard_on(row: &Row) -> Option<Port>
     match row.kind {
         RowKind::Single { .. } => Some(Port::Single),
         RowKind::Multi { .. } => Some(Port::Multi),
-        RowKind::Seek => Some(Port::Answer),
+        RowKind::Initiator => Some(Port::Answer),
         RowKind::Reflect => Some(Port::Sbfd),
         RowKind::Head | RowKind::Tail { .. } => None,
     }

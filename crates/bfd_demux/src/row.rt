@@ -18,7 +18,7 @@ pub enum RowKind {
         remote: Addr,
     },
     /// A seamless initiator (RFC 7880 section 7.3).
-    Seek,
+    Initiator,
     /// A seamless reflector (RFC 7880 section 7.2).
     Reflect,
     /// The head of a multipoint tree, which hears nothing (RFC 8562 section 5.4).

@@ -49,8 +49,8 @@ fn multi(discr: u32, local: Addr, remote: Addr) -> Row {
     Row { discr, kind }
 }
 
-fn seek(discr: u32) -> Row {
-    let kind = RowKind::Seek;
+fn initiator(discr: u32) -> Row {
+    let kind = RowKind::Initiator;
     Row { discr, kind }
 }
 
@@ -164,9 +164,14 @@ fn refuses_discriminators(rt: HostRuntime) -> Result<(), Fail> {
         ([1, 2, 3, 1], BuildFault::SameDiscr(0, 3)),
         ([5, 5, 0, 0], BuildFault::ZeroDiscr(2)),
     ] {
-        assert!(rt; fault(alloc, &[seek(a), seek(b), seek(c), seek(d)]) == Some(want));
+        assert!(rt;
+            fault(
+                alloc,
+                &[initiator(a), initiator(b), initiator(c), initiator(d)]
+            ) == Some(want)
+        );
     }
-    let many = vec![in alloc; seek(1); 65_537]?;
+    let many = vec![in alloc; initiator(1); 65_537]?;
     assert!(rt; fault(alloc, &many) == Some(BuildFault::TooMany(65_537)));
     Ok(())
 }
@@ -199,14 +204,16 @@ fn refuses_addresses(rt: HostRuntime) {
             BuildFault::SameDiscr(2, 3),
         ),
     ] {
-        assert!(rt; fault(rt.alloc(), &[first, second, seek(3), seek(discr)]) == Some(want));
+        assert!(rt;
+            fault(rt.alloc(), &[first, second, initiator(3), initiator(discr)]) == Some(want)
+        );
     }
 }
 
 /// What a table of another row selects for a packet of the session 1 that was screened by its own.
 fn by_another(alloc: Global, your: u32) -> Option<Result<Target, Test>> {
     let here = Demux::build(alloc, &[single(1, 1, LOCAL, REMOTE)]).ok()?;
-    let other = Demux::build(alloc, &[seek(3)]).ok()?;
+    let other = Demux::build(alloc, &[initiator(3)]).ok()?;
     let bytes = packet(0x40, 7, your);
     let came = arrival(Port::Single, 1, REMOTE, LOCAL, &bytes, alloc).ok()?;
     Some(select_after(&here, &other, &came))
@@ -224,7 +231,7 @@ fn all_kinds() -> [Row; 8] {
     let reflector = RowKind::Reflect;
     [
         tail(30, 77, 1),
-        seek(3),
+        initiator(3),
         multi(8, LOCAL_6, REMOTE_6),
         single(1, 1, LOCAL, REMOTE),
         Row {
@@ -336,7 +343,7 @@ fn answered<L: Ledger>(
 fn selects_among_65536_initiators(rt: HostRuntime) -> Result<(), Fail> {
     let mut rows = Vec::with_capacity(rt.alloc(), 65_536)?;
     for discr in 1..65_537 {
-        rows.push(seek(discr))?;
+        rows.push(initiator(discr))?;
     }
     let Ok(table) = Demux::build(rt.alloc(), &rows) else {
         return Err(Fail::from("no table"));
@@ -373,8 +380,8 @@ fn grows_row_by_row(rt: HostRuntime) -> Result<(), Fail> {
         return Err(Fail::from("no table"));
     };
     for (row, want) in [
-        (seek(0), AddFault::ZeroDiscr),
-        (seek(4), AddFault::SameDiscr),
+        (initiator(0), AddFault::ZeroDiscr),
+        (initiator(4), AddFault::SameDiscr),
         (single(30, 1, LOCAL, REMOTE), AddFault::SameDiscr),
         (single(7, 1, LOCAL, REMOTE), AddFault::SameAddresses),
         (multi(7, LOCAL_6, REMOTE_6), AddFault::SameAddresses),

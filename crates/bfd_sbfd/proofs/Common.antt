@@ -16,10 +16,10 @@ pub use Rattle.bfd_sbfd.specs.Command.{done, refusal}
 unfoldable pub use Rattle.bfd_sbfd.specs.Command.{commanded}
 pub use Rattle.bfd_sbfd.specs.Frame.{in_use}
 unfoldable pub use Rattle.bfd_sbfd.specs.Frame.{moves}
-pub use Rattle.bfd_sbfd.specs.Sound.{IsSeekPlain, IsSeekSound, IsSeekSteady}
+pub use Rattle.bfd_sbfd.specs.Sound.{IsInitiatorPlain, IsInitiatorSound, IsInitiatorSteady}
 unfoldable pub use Rattle.bfd_sbfd.specs.Transmit.{transmits}
 pub use Rattle.bfd_sbfd.specs.Waiting.{deadline}
-pub use Rattle.bfd_sbfd.specs.declared.config.SeekConfig.{SeekConfig}
+pub use Rattle.bfd_sbfd.specs.declared.config.InitiatorConfig.{InitiatorConfig}
 pub use Rattle.std.proofs.lemmas.Grind.{common_steps}
 pub use Rattle.bfd_rules.proofs.Courses.{OfOwn, after, changes-after, changes_names, chosen_names, either, own_name, sends-after}
 pub use Rattle.bfd_rules.proofs.Courses.{sends_names}

@@ -9,7 +9,7 @@ use Rattle.bfd_rules.specs.declared.variables.Vars.{Vars}
 use Rattle.bfd_rules.specs.Quantities.{is_admin_down}
 use Rattle.bfd_rules.specs.EventFrame.{Course, enters}
 use Rattle.bfd_rules.specs.Sound.{is_interval}
-use Rattle.bfd_sbfd.specs.declared.config.SeekConfig.{SeekConfig}
+use Rattle.bfd_sbfd.specs.declared.config.InitiatorConfig.{InitiatorConfig}
 use Rattle.bfd_sbfd.specs.Frame.{moves}
 
 -- an initiator knows four commands: it has no Required Min RX, path, Demand mode, Echo function or key to set
@@ -52,5 +52,5 @@ done (Mult n) v = record v { mult = n }
 done _ v = v
 
 -- a command is done, or refused and changes nothing
-unfoldable pub commanded : SeekConfig → Cmd → Course → Course
+unfoldable pub commanded : InitiatorConfig → Cmd → Course → Course
 commanded c cmd s = if is_some (refusal s.vars cmd) then s else moves c.discr (done cmd s.vars) s

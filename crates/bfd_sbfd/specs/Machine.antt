@@ -4,21 +4,21 @@ use Rattle.bfd_packet.specs.declared.control.State.TheVariants.{Down}
 use Rattle.bfd_rules.specs.declared.variables.Poll.TheVariants.{Idle}
 use Rattle.bfd_rules.specs.declared.variables.Vars.{Vars}
 use Rattle.bfd_rules.specs.EventFrame.{begins, drawn}
-use Rattle.bfd_sbfd.specs.declared.config.SeekConfig.{SeekConfig}
-use Rattle.bfd_sbfd.specs.Sound.{IsSeekConfig, IsSeekSteady}
+use Rattle.bfd_sbfd.specs.declared.config.InitiatorConfig.{InitiatorConfig}
+use Rattle.bfd_sbfd.specs.Sound.{IsInitiatorConfig, IsInitiatorSteady}
 
 -- the configuration and the variables of an initiator
 pub record Machine : Type 0 where
-  pub config : SeekConfig
+  pub config : InitiatorConfig
   pub vars : Vars
 
 -- what every initiator keeps, also between the parts of an event
 pub record IsMachine (m : Machine) : Type 0 where
-  pub config : IsSeekConfig m.config
-  pub steady : IsSeekSteady m.config m.vars
+  pub config : IsInitiatorConfig m.config
+  pub steady : IsInitiatorSteady m.config m.vars
 
 -- the variables at the start, before the first due tick is drawn (RFC 7880 section 6.2, RFC 5880 section 6.8.1)
-abbrev pub initial : SeekConfig → Vars
+abbrev pub initial : InitiatorConfig → Vars
 initial c = record {
   state = Down;
   remote_state = Down;
@@ -49,5 +49,5 @@ initial c = record {
 }
 
 -- the variables at the start
-unfoldable pub made : SeekConfig → Vars
+unfoldable pub made : InitiatorConfig → Vars
 made c = drawn true (begins (initial c)) (initial c)

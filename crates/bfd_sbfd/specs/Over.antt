@@ -6,8 +6,8 @@ use Rattle.bfd_rules.specs.declared.variables.Vars.{Vars}
 use Rattle.bfd_rules.specs.declared.variables.Mark.{Mark}
 use Rattle.bfd_rules.specs.Quantities.{may_send, tx_interval}
 use Rattle.bfd_rules.specs.EventFrame.{begins, is_news, one_changed}
-use Rattle.bfd_sbfd.specs.declared.config.SeekConfig.{SeekConfig}
-use Rattle.bfd_sbfd.specs.Sound.{IsSeekSound}
+use Rattle.bfd_sbfd.specs.declared.config.InitiatorConfig.{InitiatorConfig}
+use Rattle.bfd_sbfd.specs.Sound.{IsInitiatorSound}
 use Rattle.bfd_sbfd.specs.Waiting.{deadline}
 
 -- no deadline and no due tick has come by the limit, in microseconds
@@ -23,9 +23,9 @@ pub record IsStill (limit : ℕ) (m : Mark) (v : Vars) : Type 0 where
   pub one_kept : one_changed m v ≡ false
 
 -- an event with this limit begins: sound variables, and their mark
-pub record IsBegun (c : SeekConfig) (limit eff : ℕ) (m : Mark) (v : Vars) : Type 0 where
+pub record IsBegun (c : InitiatorConfig) (limit eff : ℕ) (m : Mark) (v : Vars) : Type 0 where
   pub reached : limit ≤ eff
-  pub sound : IsSeekSound c v
+  pub sound : IsInitiatorSound c v
   pub made : m ≡ begins v
 
 -- what settling leaves for the end of the event: no deadline has come, and no packet with F was sent. A packet that moved the

@@ -11,7 +11,7 @@ use Rattle.bfd_rules.specs.declared.verdict.Verdict.{Verdict}
 use Rattle.bfd_rules.specs.declared.verdict.Verdict.TheVariants.{Accepted, Dropped}
 use Rattle.bfd_rules.specs.Quantities.{is_admin_down}
 use Rattle.bfd_rules.specs.EventFrame.{Course, enters}
-use Rattle.bfd_sbfd.specs.declared.config.SeekConfig.{SeekConfig}
+use Rattle.bfd_sbfd.specs.declared.config.InitiatorConfig.{InitiatorConfig}
 use Rattle.bfd_sbfd.specs.Frame.{moves}
 
 -- 1. The reflector's state and the interval that it asks for are kept, and the moment of its answer
@@ -26,17 +26,17 @@ machine Up AdminDown v = enters Down 3 v
 machine _ _ v = v
 
 -- 2. The state machine receives the reflector's state
-unfoldable pub moves_state : SeekConfig → Control → Course → Course
+unfoldable pub moves_state : InitiatorConfig → Control → Course → Course
 moves_state c packet s = moves c.discr (machine s.vars.state packet.state s.vars) s
 
 -- in AdminDown the fields are kept and nothing more is done; P is never answered
-unfoldable pub accepted : SeekConfig → ℕ → Control → Course → Course
+unfoldable pub accepted : InitiatorConfig → ℕ → Control → Course → Course
 accepted c eff packet s =
     let t : Course = keeps_fields eff packet s in
     if is_admin_down t.vars.state then t else moves_state c packet t
 
 -- an answer with A set changes nothing: an initiator uses no authentication
-unfoldable pub received : SeekConfig → ℕ → List ℕ → Course → Course
+unfoldable pub received : InitiatorConfig → ℕ → List ℕ → Course → Course
 received c eff raw s = if (fields_of raw).auth then s else accepted c eff (fields_of raw) s
 
 -- its verdict: the first test that fails, the one on AdminDown last

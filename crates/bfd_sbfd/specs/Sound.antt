@@ -7,10 +7,10 @@ use Rattle.bfd_num.specs.Numbers.{moment_bound}
 use Rattle.bfd_rules.specs.declared.variables.Poll.TheVariants.{Idle}
 use Rattle.bfd_rules.specs.declared.variables.Vars.{Vars}
 use Rattle.bfd_rules.specs.Quantities.{adv_tx, may_send}
-use Rattle.bfd_sbfd.specs.declared.config.SeekConfig.{SeekConfig}
+use Rattle.bfd_sbfd.specs.declared.config.InitiatorConfig.{InitiatorConfig}
 
 -- a configuration within its ranges
-pub record IsSeekConfig (c : SeekConfig) : Type 0 where
+pub record IsInitiatorConfig (c : InitiatorConfig) : Type 0 where
   pub discr : 0 < c.discr
   pub target : 0 < c.target
   pub iface : c.iface < 65536
@@ -20,14 +20,14 @@ pub record IsSeekConfig (c : SeekConfig) : Type 0 where
   pub most_mult : c.mult < 256
 
 -- an initiator is never in Init (RFC 7880 section 7.3.1)
-abbrev pub is_seek_state : State → Bool
-is_seek_state AdminDown = true
-is_seek_state Down = true
-is_seek_state Init = false
-is_seek_state Up = true
+abbrev pub is_initiator_state : State → Bool
+is_initiator_state AdminDown = true
+is_initiator_state Down = true
+is_initiator_state Init = false
+is_initiator_state Up = true
 
 -- what an initiator leaves as it was at the start: the discriminator that it seeks, and what it doesn't use
-pub record IsFixed (c : SeekConfig) (v : Vars) : Type 0 where
+pub record IsFixed (c : InitiatorConfig) (v : Vars) : Type 0 where
   pub target : v.remote_discr ≡ c.target
   pub rx : v.rx ≡ 0
   pub used_rx : v.used_rx ≡ 0
@@ -44,8 +44,8 @@ pub record IsFixed (c : SeekConfig) (v : Vars) : Type 0 where
 
 -- what holds of its variables except the interval in use: configured values are in their ranges, the diagnostic has 5 bits,
 -- the reflector's interval has 32, and moments are below 2^60. In Up an answer was heard
-pub record IsSeekPlain (c : SeekConfig) (v : Vars) : Type 0 where
-  pub states : IsTrue (is_seek_state v.state)
+pub record IsInitiatorPlain (c : InitiatorConfig) (v : Vars) : Type 0 where
+  pub states : IsTrue (is_initiator_state v.state)
   pub tx_least : 10000 ≤ v.tx
   pub tx_most : v.tx ≤ 60000000
   pub some_mult : 0 < v.mult
@@ -60,11 +60,11 @@ pub record IsSeekPlain (c : SeekConfig) (v : Vars) : Type 0 where
   pub fixed : IsFixed c v
 
 -- what holds after each rule: the advertised interval is the one in use
-pub record IsSeekSteady (c : SeekConfig) (v : Vars) : Type 0 where
-  pub plain : IsSeekPlain c v
+pub record IsInitiatorSteady (c : InitiatorConfig) (v : Vars) : Type 0 where
+  pub plain : IsInitiatorPlain c v
   pub in_use : v.used_tx ≡ adv_tx v
 
 -- what holds between events: a due tick is present if and only if periodic packets may be sent; an initiator is active
-pub record IsSeekSound (c : SeekConfig) (v : Vars) : Type 0 where
-  pub steady : IsSeekSteady c v
+pub record IsInitiatorSound (c : InitiatorConfig) (v : Vars) : Type 0 where
+  pub steady : IsInitiatorSteady c v
   pub due : IsSome v.tx_due ↔ IsTrue (may_send true v)

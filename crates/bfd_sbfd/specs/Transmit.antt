@@ -6,11 +6,11 @@ use Rattle.bfd_packet.specs.Layout.{text_of}
 use Rattle.bfd_rules.specs.declared.variables.Vars.{Vars}
 use Rattle.bfd_rules.specs.Quantities.{adv_tx}
 use Rattle.bfd_rules.specs.EventFrame.{Course, sends}
-use Rattle.bfd_sbfd.specs.declared.config.SeekConfig.{SeekConfig}
+use Rattle.bfd_sbfd.specs.declared.config.InitiatorConfig.{InitiatorConfig}
 
 -- its fields: D marks the packet as one for a reflector, and Your Discriminator is the one that is sought. A Required
 -- Min RX Interval of 0 asks for no packets but answers
-abbrev pub packet_of : SeekConfig → Vars → Control
+abbrev pub packet_of : InitiatorConfig → Vars → Control
 packet_of c v = record {
   diag = v.diag;
   state = v.state;
@@ -30,7 +30,7 @@ packet_of c v = record {
 }
 
 -- these bytes on their way to the reflectors' port, with TTL 255
-abbrev pub datagram_of : SeekConfig → List ℕ → Datagram
+abbrev pub datagram_of : InitiatorConfig → List ℕ → Datagram
 datagram_of c bytes = record {
   iface = c.iface;
   src = c.local;
@@ -42,5 +42,5 @@ datagram_of c bytes = record {
 }
 
 -- a packet is transmitted
-unfoldable pub transmits : SeekConfig → Course → Course
+unfoldable pub transmits : InitiatorConfig → Course → Course
 transmits c s = sends c.discr (datagram_of c (text_of (packet_of c s.vars) [])) s

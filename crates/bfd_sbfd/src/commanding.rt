@@ -3,11 +3,11 @@ ghost use Rattle.std.specs.Prelude.{◌≡◌, ◌<◌, ◌≤◌, ◌+◌, None
 ghost use Rattle.std.specs.Result.{result_err};
 ghost use Rattle.bfd_rules.specs.declared.variables.Mark.{Mark};
 ghost use Rattle.bfd_rules.specs.EventFrame.{course};
-ghost use Rattle.bfd_sbfd.specs.declared.config.SeekConfig.{SeekConfig as ConfigOf};
-ghost use Rattle.bfd_sbfd.specs.Sound.{IsSeekPlain, IsSeekSteady};
+ghost use Rattle.bfd_sbfd.specs.declared.config.InitiatorConfig.{InitiatorConfig as ConfigOf};
+ghost use Rattle.bfd_sbfd.specs.Sound.{IsInitiatorPlain, IsInitiatorSteady};
 ghost use Rattle.bfd_sbfd.specs.Command as commands;
 
-use crate::SeekConfig;
+use crate::InitiatorConfig;
 use crate::frame::moves;
 use bfd_packet::State;
 use bfd_rules::{Cmd, Outs, Refusal, Vars, enters, is_admin_down, is_interval};
@@ -60,7 +60,7 @@ fn refusal(v: &Vars, cmd: &Cmd) -> Option<Refusal>
 fn done(cmd: &Cmd, v: &Vars) -> Vars
     requires { commands.refusal v.now cmd.now ≡ None }
     ensures value { result ≡ commands.done cmd.now v.now }
-    ensures plain { (c : ConfigOf) → IsSeekPlain c v.now → IsSeekPlain c result }
+    ensures plain { (c : ConfigOf) → IsInitiatorPlain c v.now → IsInitiatorPlain c result }
 {
     match *cmd {
         Cmd::Disable => enters(State::AdminDown, 7, *v),
@@ -77,14 +77,14 @@ fn done(cmd: &Cmd, v: &Vars) -> Vars
 /// Does a command, or refuses it and changes nothing.
 #[tactic(auto, unfolding(crate::specs::Command::commanded))]
 pub fn commands(
-    config: &SeekConfig,
+    config: &InitiatorConfig,
     cmd: &Cmd,
     vars: &mut Vars,
     outs: &mut Outs,
 ) -> Result<(), Refusal>
-    requires steady { IsSeekSteady config.now vars.old }
+    requires steady { IsInitiatorSteady config.now vars.old }
     requires room { 0 < outs.old.spare }
-    ensures steady { IsSeekSteady config.now vars.new }
+    ensures steady { IsInitiatorSteady config.now vars.new }
     ensures course { (m : Mark) → course vars.new m outs.new.items
         ≡ commands.commanded config.now cmd.now (course vars.old m outs.old.items) }
     ensures refusal { result_err result ≡ commands.refusal vars.old cmd.now }

@@ -5,7 +5,7 @@ use bfd_packet::Addr;
 /// The configuration of an initiator (RFC 7880 section 7.3), which doesn't change while it runs. Intervals are in
 /// microseconds.
 #[derive(Clone, Copy, Debug, PartialEq, Eq)]
-pub struct SeekConfig {
+pub struct InitiatorConfig {
     /// The local discriminator, 1 to 4,294,967,295.
     pub discr: u32,
     /// The discriminator of the reflector that is sought, 1 to 4,294,967,295 (RFC 7880 section 4).

@@ -5,21 +5,21 @@ ghost use Rattle.bfd_num.specs.Numbers.{moment_bound, floor_tick};
 ghost use Rattle.bfd_rules.specs.EventFrame.{course, is_news as is_news_of};
 ghost use Rattle.bfd_rules.specs.Quantities.{may_send as may_send_of};
 ghost use Rattle.bfd_sbfd.specs.Waiting.{deadline};
-ghost use Rattle.bfd_sbfd.specs.Sound.{IsSeekSteady, IsSeekSound};
+ghost use Rattle.bfd_sbfd.specs.Sound.{IsInitiatorSteady, IsInitiatorSound};
 ghost use Rattle.bfd_sbfd.specs.Finish as finishing;
 ghost use Rattle.bfd_sbfd.specs.Over.{IsSettled};
 
-use crate::SeekConfig;
+use crate::InitiatorConfig;
 use crate::transmitting::transmits;
 use bfd_rules::{Mark, Outs, Vars, drawn, is_untold};
 
 /// A changed state or diagnostic is sent immediately, unless none may be sent.
 #[tactic(auto, unfolding(crate::specs::Finish::extra))]
-fn extra(config: &SeekConfig, eff: u64, vars: &mut Vars, mark: &mut Mark, outs: &mut Outs)
-    requires steady { IsSeekSteady config.now vars.old }
+fn extra(config: &InitiatorConfig, eff: u64, vars: &mut Vars, mark: &mut Mark, outs: &mut Outs)
+    requires steady { IsInitiatorSteady config.now vars.old }
     requires eff { eff < moment_bound }
     requires room { 0 < outs.old.spare }
-    ensures steady { IsSeekSteady config.now vars.new }
+    ensures steady { IsInitiatorSteady config.now vars.new }
     ensures course { course vars.new mark.new outs.new.items
         ≡ finishing.extra config.now eff (course vars.old mark.old outs.old.items) }
     ensures same { vars.new ≡ record vars.old { base = vars.new.base } }
@@ -39,11 +39,11 @@ fn extra(config: &SeekConfig, eff: u64, vars: &mut Vars, mark: &mut Mark, outs: 
 
 /// Ends an event at the effective moment `eff`, in microseconds.
 #[tactic(auto, using(crate::proofs::Drawing::drawn_sound), unfolding(crate::specs::Finish::finish, bfd_rules::specs::EventFrame::redrawn))]
-pub fn finish(config: &SeekConfig, eff: u64, vars: &mut Vars, mark: Mark, outs: &mut Outs)
-    requires steady { IsSeekSteady config.now vars.old }
+pub fn finish(config: &InitiatorConfig, eff: u64, vars: &mut Vars, mark: Mark, outs: &mut Outs)
+    requires steady { IsInitiatorSteady config.now vars.old }
     requires eff { eff < moment_bound }
     requires room { 0 < outs.old.spare }
-    ensures sound { IsSeekSound config.now vars.new }
+    ensures sound { IsInitiatorSound config.now vars.new }
     ensures late { (limit : ℕ) → has_come limit (deadline vars.old) ≡ false
         → has_come limit (deadline vars.new) ≡ false }
     ensures due_later { (limit : ℕ) → limit ≤ eff → IsSettled limit eff mark vars.old

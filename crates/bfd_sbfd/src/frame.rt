@@ -3,16 +3,16 @@ ghost use Rattle.std.specs.Prelude.{◌≡◌, ◌<◌, ◌≤◌, ◌+◌};
 ghost use Rattle.bfd_rules.specs.declared.variables.Mark.{Mark};
 ghost use Rattle.bfd_rules.specs.EventFrame.{course};
 ghost use Rattle.bfd_sbfd.specs.Frame as frame;
-ghost use Rattle.bfd_sbfd.specs.Sound.{IsSeekPlain, IsSeekSteady};
+ghost use Rattle.bfd_sbfd.specs.Sound.{IsInitiatorPlain, IsInitiatorSteady};
 
-use crate::SeekConfig;
+use crate::InitiatorConfig;
 use bfd_rules::{Outs, Vars, adv_tx, changes};
 
 /// The advertised interval is the one in use: an initiator has no Poll Sequences.
-fn in_use(config: &SeekConfig, v: Vars) -> Vars
-    requires plain { IsSeekPlain config.now v }
+fn in_use(config: &InitiatorConfig, v: Vars) -> Vars
+    requires plain { IsInitiatorPlain config.now v }
     ensures value { result ≡ frame.in_use v }
-    ensures steady { IsSeekSteady config.now result }
+    ensures steady { IsInitiatorSteady config.now result }
 {
     // proof: the read brings the invariant
     let _ = config.discr;
@@ -24,10 +24,10 @@ fn in_use(config: &SeekConfig, v: Vars) -> Vars
 
 /// The rule makes `after` of the variables, and a new state is emitted.
 #[tactic(auto, unfolding(crate::specs::Frame::moves))]
-pub fn moves(config: &SeekConfig, after: Vars, vars: &mut Vars, outs: &mut Outs)
-    requires plain { IsSeekPlain config.now after }
+pub fn moves(config: &InitiatorConfig, after: Vars, vars: &mut Vars, outs: &mut Outs)
+    requires plain { IsInitiatorPlain config.now after }
     requires room { 0 < outs.old.spare }
-    ensures steady { IsSeekSteady config.now vars.new }
+    ensures steady { IsInitiatorSteady config.now vars.new }
     ensures value { vars.new ≡ frame.in_use after }
     ensures course { (m : Mark) → course vars.new m outs.new.items
         ≡ frame.moves config.now.discr after (course vars.old m outs.old.items) }

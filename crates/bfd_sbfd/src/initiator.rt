@@ -7,8 +7,8 @@ ghost use Rattle.bfd_packet.specs.declared.arrival.Port.TheVariants.{Answer};
 ghost use Rattle.bfd_packet.specs.Layout.{fields_of};
 ghost use Rattle.bfd_packet.specs.HeaderTests.{first_failing};
 ghost use Rattle.bfd_rules.specs.EventFrame.{course, begins as begins_of, stamped as stamped_of};
-ghost use Rattle.bfd_sbfd.specs.declared.config.SeekConfig.{SeekConfig as ConfigOf};
-ghost use Rattle.bfd_sbfd.specs.Sound.{IsSeekConfig, IsSeekSteady, IsSeekSound};
+ghost use Rattle.bfd_sbfd.specs.declared.config.InitiatorConfig.{InitiatorConfig as ConfigOf};
+ghost use Rattle.bfd_sbfd.specs.Sound.{IsInitiatorConfig, IsInitiatorSteady, IsInitiatorSound};
 ghost use Rattle.bfd_sbfd.specs.Settle as settling;
 ghost use Rattle.bfd_sbfd.specs.Receive as receive;
 ghost use Rattle.bfd_sbfd.specs.Command as command;
@@ -16,7 +16,7 @@ ghost use Rattle.bfd_sbfd.specs.Finish as finishing;
 ghost use Rattle.bfd_sbfd.specs.Over.{IsBegun, IsSettled, IsOver};
 ghost use Rattle.bfd_sbfd.specs.Machine as machine;
 
-use crate::SeekConfig;
+use crate::InitiatorConfig;
 use crate::commanding::commands;
 use crate::finishing::finish;
 use crate::receiving::receives;
@@ -29,7 +29,7 @@ use std::marker::Model;
 /// an event.
 #[derive(Drop)]
 pub struct Initiator {
-    config: SeekConfig,
+    config: InitiatorConfig,
     vars: Vars,
 }
 
@@ -44,10 +44,10 @@ impl Model for Initiator {
 }
 
 /// The variables at the start, before the first due tick is drawn (RFC 7880 section 6.2, RFC 5880 section 6.8.1).
-fn initial(c: &SeekConfig) -> Vars
-    requires { IsSeekConfig c.now }
+fn initial(c: &InitiatorConfig) -> Vars
+    requires { IsInitiatorConfig c.now }
     ensures value { result ≡ machine.initial c.now }
-    ensures steady { IsSeekSteady c.now result }
+    ensures steady { IsInitiatorSteady c.now result }
 {
     Vars {
         state: State::Down,
@@ -85,10 +85,10 @@ fn initial(c: &SeekConfig) -> Vars
 
 /// The variables at the start.
 #[tactic(auto, using(crate::proofs::Drawing::drawn_sound), unfolding(crate::specs::Machine::made))]
-fn made(c: &SeekConfig) -> Vars
-    requires { IsSeekConfig c.now }
+fn made(c: &InitiatorConfig) -> Vars
+    requires { IsInitiatorConfig c.now }
     ensures value { result ≡ machine.made c.now }
-    ensures sound { IsSeekSound c.now result }
+    ensures sound { IsInitiatorSound c.now result }
 {
     let v = initial(c);
     let mark = begins(&v);
@@ -99,7 +99,7 @@ fn made(c: &SeekConfig) -> Vars
 fn stamps(own: Option<u64>, v: Vars) -> Vars
     requires { ForSome own (λ eff. eff < moment_bound) }
     ensures value { result ≡ stamped_of own v }
-    ensures steady { (c : ConfigOf) → IsSeekSteady c v → IsSeekSteady c result }
+    ensures steady { (c : ConfigOf) → IsInitiatorSteady c v → IsInitiatorSteady c result }
 {
     stamped(own, v)
 }
@@ -107,20 +107,20 @@ fn stamps(own: Option<u64>, v: Vars) -> Vars
 impl Initiator {
     /// An initiator with the variables of the start (RFC 7880 section 6.2, RFC 5880 section 6.8.1), and the first due tick
     /// drawn: it is active. The configuration is within its ranges.
-    pub fn make(config: SeekConfig) -> Initiator
-        requires { IsSeekConfig config }
+    pub fn make(config: InitiatorConfig) -> Initiator
+        requires { IsInitiatorConfig config }
         ensures config { result.config ≡ config }
         ensures vars { result.vars ≡ machine.made config }
-        ensures sound { IsSeekSound result.config result.vars }
+        ensures sound { IsInitiatorSound result.config result.vars }
     {
         let vars = made(&config);
         Initiator { config, vars }
     }
 
     /// The configuration.
-    pub fn config(&self) -> &SeekConfig
+    pub fn config(&self) -> &InitiatorConfig
         ensures value { result.now ≡ self.now.config }
-        ensures fit { IsSeekConfig self.now.config }
+        ensures fit { IsInitiatorConfig self.now.config }
     {
         &self.config
     }
@@ -128,7 +128,7 @@ impl Initiator {
     /// The variables.
     pub fn vars(&self) -> &Vars
         ensures value { result.now ≡ self.now.vars }
-        ensures steady { IsSeekSteady self.now.config self.now.vars }
+        ensures steady { IsInitiatorSteady self.now.config self.now.vars }
     {
         &self.vars
     }
@@ -222,7 +222,7 @@ impl Initiator {
             (course self.old.vars mark outs.old.items)).vars }
         ensures outs { outs.new.items ≡ (finishing.finish self.old.config eff
             (course self.old.vars mark outs.old.items)).outs }
-        ensures sound { IsSeekSound self.new.config self.new.vars }
+        ensures sound { IsInitiatorSound self.new.config self.new.vars }
         ensures over { (limit : ℕ) → limit ≤ eff → IsSettled limit eff mark self.old.vars → IsOver limit self.new.vars }
         ensures spare { outs.old.spare ≤ outs.new.spare + 1 }
         ensures room { outs.new.room ≡ outs.old.room }

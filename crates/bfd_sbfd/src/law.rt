@@ -7,9 +7,9 @@ ghost use Rattle.bfd_rules.specs.declared.commands.Cmd.{Cmd};
 ghost use Rattle.bfd_rules.specs.declared.outputs.Out.{Out};
 ghost use Rattle.bfd_rules.specs.declared.variables.Vars.{Vars};
 ghost use Rattle.bfd_rules.specs.EventFrame.{Course, course, begins};
-ghost use Rattle.bfd_sbfd.specs.declared.config.SeekConfig.{SeekConfig};
+ghost use Rattle.bfd_sbfd.specs.declared.config.InitiatorConfig.{InitiatorConfig};
 ghost use Rattle.bfd_sbfd.specs.Waiting.{deadline};
-ghost use Rattle.bfd_sbfd.specs.Sound.{IsSeekSteady, IsSeekSound};
+ghost use Rattle.bfd_sbfd.specs.Sound.{IsInitiatorSteady, IsInitiatorSound};
 ghost use Rattle.bfd_sbfd.specs.Settle.{settle};
 ghost use Rattle.bfd_sbfd.specs.Receive.{received};
 ghost use Rattle.bfd_sbfd.specs.Command.{commanded};
@@ -22,25 +22,25 @@ ghost use Rattle.bfd_rules.specs.Names.{AllNamed};
 /// event names the session's discriminator.
 #[tactic(auto, using(crate::proofs::Rest::tick_rests, crate::proofs::Soundness::tick_sound, crate::proofs::Soundness::packet_sound, crate::proofs::Soundness::command_sound, crate::proofs::Expiry::expires, crate::proofs::Naming::settle_named, crate::proofs::Naming::received_named, crate::proofs::Naming::commanded_named, crate::proofs::Naming::finish_named))]
 pub fn initiator_laws()
-    ensures rests { (c : SeekConfig) (limit eff : ℕ) (v : Vars) (os : List Out) → IsSeekSound c v
+    ensures rests { (c : InitiatorConfig) (limit eff : ℕ) (v : Vars) (os : List Out) → IsInitiatorSound c v
         → has_come limit (deadline v) ≡ false → has_come (floor_tick limit) v.tx_due ≡ false
         → finish c eff (settle c limit eff (course v (begins v) os)) ≡ course v (begins v) os }
-    ensures tick_sound { (c : SeekConfig) (limit eff : ℕ) (s : Course) → eff < moment_bound → IsSeekSteady c s.vars
-        → IsSeekSound c (finish c eff (settle c limit eff s)).vars }
-    ensures packet_sound { (c : SeekConfig) (limit eff : ℕ) (raw : List ℕ) (s : Course) → eff < moment_bound
-        → (fields_of raw).min_rx < 2 ^ 32 → IsSeekSteady c s.vars
-        → IsSeekSound c (finish c eff (received c eff raw (settle c limit eff s))).vars }
-    ensures command_sound { (c : SeekConfig) (limit eff : ℕ) (cmd : Cmd) (s : Course) → eff < moment_bound
-        → IsSeekSteady c s.vars
-        → IsSeekSound c (finish c eff (commanded c cmd (settle c limit eff s))).vars }
-    ensures expires { (c : SeekConfig) (limit eff : ℕ) (s : Course) → IsSome s.vars.heard
+    ensures tick_sound { (c : InitiatorConfig) (limit eff : ℕ) (s : Course) → eff < moment_bound → IsInitiatorSteady c s.vars
+        → IsInitiatorSound c (finish c eff (settle c limit eff s)).vars }
+    ensures packet_sound { (c : InitiatorConfig) (limit eff : ℕ) (raw : List ℕ) (s : Course) → eff < moment_bound
+        → (fields_of raw).min_rx < 2 ^ 32 → IsInitiatorSteady c s.vars
+        → IsInitiatorSound c (finish c eff (received c eff raw (settle c limit eff s))).vars }
+    ensures command_sound { (c : InitiatorConfig) (limit eff : ℕ) (cmd : Cmd) (s : Course) → eff < moment_bound
+        → IsInitiatorSteady c s.vars
+        → IsInitiatorSound c (finish c eff (commanded c cmd (settle c limit eff s))).vars }
+    ensures expires { (c : InitiatorConfig) (limit eff : ℕ) (s : Course) → IsSome s.vars.heard
         → ((finish c eff (settle c limit eff s)).vars.heard ≡ None) ↔ (has_come limit (deadline s.vars) ≡ true) }
-    ensures settle_named { (c : SeekConfig) (limit eff : ℕ) (s : Course) → AllNamed c.discr s.outs
+    ensures settle_named { (c : InitiatorConfig) (limit eff : ℕ) (s : Course) → AllNamed c.discr s.outs
         → AllNamed c.discr (settle c limit eff s).outs }
-    ensures received_named { (c : SeekConfig) (eff : ℕ) (raw : List ℕ) (s : Course) → AllNamed c.discr s.outs
+    ensures received_named { (c : InitiatorConfig) (eff : ℕ) (raw : List ℕ) (s : Course) → AllNamed c.discr s.outs
         → AllNamed c.discr (received c eff raw s).outs }
-    ensures commanded_named { (c : SeekConfig) (cmd : Cmd) (s : Course) → AllNamed c.discr s.outs
+    ensures commanded_named { (c : InitiatorConfig) (cmd : Cmd) (s : Course) → AllNamed c.discr s.outs
         → AllNamed c.discr (commanded c cmd s).outs }
-    ensures finish_named { (c : SeekConfig) (eff : ℕ) (s : Course) → AllNamed c.discr s.outs
+    ensures finish_named { (c : InitiatorConfig) (eff : ℕ) (s : Course) → AllNamed c.discr s.outs
         → AllNamed c.discr (finish c eff s).outs }
 {}

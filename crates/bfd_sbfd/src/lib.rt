@@ -37,7 +37,7 @@ mod settling;
 mod transmitting;
 mod waiting;
 
-pub use config::SeekConfig;
+pub use config::InitiatorConfig;
 pub use initiator::Initiator;
 pub use law::initiator_laws;
 pub use reflecting::{Reflector, reflect, reflect_by};

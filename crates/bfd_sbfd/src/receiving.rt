@@ -7,11 +7,11 @@ ghost use Rattle.bfd_packet.specs.HeaderTests.{first_failing};
 ghost use Rattle.bfd_rules.specs.declared.variables.Mark.{Mark};
 ghost use Rattle.bfd_rules.specs.declared.outputs.Out.{Out};
 ghost use Rattle.bfd_rules.specs.EventFrame.{course};
-ghost use Rattle.bfd_sbfd.specs.declared.config.SeekConfig.{SeekConfig as ConfigOf};
-ghost use Rattle.bfd_sbfd.specs.Sound.{IsSeekPlain, IsSeekSteady};
+ghost use Rattle.bfd_sbfd.specs.declared.config.InitiatorConfig.{InitiatorConfig as ConfigOf};
+ghost use Rattle.bfd_sbfd.specs.Sound.{IsInitiatorPlain, IsInitiatorSteady};
 ghost use Rattle.bfd_sbfd.specs.Receive as receive;
 
-use crate::SeekConfig;
+use crate::InitiatorConfig;
 use crate::frame::moves;
 use bfd_packet::{Control, Port, State, Test, read};
 use bfd_rules::{Outs, Vars, Verdict, enters, is_admin_down};
@@ -26,10 +26,10 @@ fn min_rx_of(packet: &Control) -> u32
 
 /// The reflector's state and the interval that it asks for are kept, and the moment of its answer.
 #[tactic(auto, unfolding(crate::specs::Receive::keeps_fields))]
-fn keeps_fields(config: &SeekConfig, eff: u64, packet: &Control, vars: &mut Vars)
-    requires steady { IsSeekSteady config.now vars.old }
+fn keeps_fields(config: &InitiatorConfig, eff: u64, packet: &Control, vars: &mut Vars)
+    requires steady { IsInitiatorSteady config.now vars.old }
     requires eff { eff < moment_bound }
-    ensures steady { IsSeekSteady config.now vars.new }
+    ensures steady { IsInitiatorSteady config.now vars.new }
     ensures state { vars.new.state ≡ vars.old.state }
     ensures heard { IsSome vars.new.heard }
     ensures course { (m : Mark) (os : List Out)
@@ -50,7 +50,7 @@ fn keeps_fields(config: &SeekConfig, eff: u64, packet: &Control, vars: &mut Vars
 fn machine(received: State, v: &Vars) -> Vars
     requires { IsSome v.now.heard }
     ensures value { result ≡ receive.machine v.now.state received v.now }
-    ensures plain { (c : ConfigOf) → IsSeekPlain c v.now → IsSeekPlain c result }
+    ensures plain { (c : ConfigOf) → IsInitiatorPlain c v.now → IsInitiatorPlain c result }
 {
     match (v.state, received) {
         (State::Down, State::Up) => enters(State::Up, v.diag, *v),
@@ -61,11 +61,11 @@ fn machine(received: State, v: &Vars) -> Vars
 
 /// The state machine handles the received state.
 #[tactic(auto, unfolding(crate::specs::Receive::moves_state))]
-fn moves_state(config: &SeekConfig, packet: &Control, vars: &mut Vars, outs: &mut Outs)
-    requires steady { IsSeekSteady config.now vars.old }
+fn moves_state(config: &InitiatorConfig, packet: &Control, vars: &mut Vars, outs: &mut Outs)
+    requires steady { IsInitiatorSteady config.now vars.old }
     requires heard { IsSome vars.old.heard }
     requires room { 0 < outs.old.spare }
-    ensures steady { IsSeekSteady config.now vars.new }
+    ensures steady { IsInitiatorSteady config.now vars.new }
     ensures course { (m : Mark) → course vars.new m outs.new.items
         ≡ receive.moves_state config.now packet.now (course vars.old m outs.old.items) }
     ensures spare { outs.old.spare ≤ outs.new.spare + 1 }
@@ -78,16 +78,16 @@ fn moves_state(config: &SeekConfig, packet: &Control, vars: &mut Vars, outs: &mu
 /// What an answer that the test on A lets pass does; the test on AdminDown comes after its fields were kept.
 #[tactic(auto, unfolding(crate::specs::Receive::accepted))]
 fn accepts(
-    config: &SeekConfig,
+    config: &InitiatorConfig,
     eff: u64,
     packet: &Control,
     vars: &mut Vars,
     outs: &mut Outs,
 ) -> Verdict
-    requires steady { IsSeekSteady config.now vars.old }
+    requires steady { IsInitiatorSteady config.now vars.old }
     requires eff { eff < moment_bound }
     requires room { 0 < outs.old.spare }
-    ensures steady { IsSeekSteady config.now vars.new }
+    ensures steady { IsInitiatorSteady config.now vars.new }
     ensures course { (m : Mark) → course vars.new m outs.new.items
         ≡ receive.accepted config.now eff packet.now (course vars.old m outs.old.items) }
     ensures verdict { result ≡ receive.verdict_by vars.old.state }
@@ -118,17 +118,17 @@ fn fields(raw: &[u8]) -> Control
 /// port.
 #[tactic(auto, unfolding(crate::specs::Receive::received))]
 pub fn receives(
-    config: &SeekConfig,
+    config: &InitiatorConfig,
     eff: u64,
     raw: &[u8],
     vars: &mut Vars,
     outs: &mut Outs,
 ) -> Verdict
-    requires steady { IsSeekSteady config.now vars.old }
+    requires steady { IsInitiatorSteady config.now vars.old }
     requires eff { eff < moment_bound }
     requires header { first_failing Answer raw.now ≡ None }
     requires room { 0 < outs.old.spare }
-    ensures steady { IsSeekSteady config.now vars.new }
+    ensures steady { IsInitiatorSteady config.now vars.new }
     ensures course { (m : Mark) → course vars.new m outs.new.items
         ≡ receive.received config.now eff raw.now (course vars.old m outs.old.items) }
     ensures verdict { result ≡ receive.verdict_on raw.now vars.old }

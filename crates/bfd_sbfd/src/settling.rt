@@ -5,13 +5,13 @@ ghost use Rattle.bfd_num.specs.Due as due;
 ghost use Rattle.bfd_rules.specs.declared.variables.Mark.{Mark as MarkOf};
 ghost use Rattle.bfd_rules.specs.Quantities.{may_send as may_send_of};
 ghost use Rattle.bfd_rules.specs.EventFrame.{course, is_news};
-ghost use Rattle.bfd_sbfd.specs.declared.config.SeekConfig.{SeekConfig as ConfigOf};
+ghost use Rattle.bfd_sbfd.specs.declared.config.InitiatorConfig.{InitiatorConfig as ConfigOf};
 ghost use Rattle.bfd_sbfd.specs.Waiting.{deadline as deadline_of};
-ghost use Rattle.bfd_sbfd.specs.Sound.{IsSeekPlain, IsSeekSteady};
+ghost use Rattle.bfd_sbfd.specs.Sound.{IsInitiatorPlain, IsInitiatorSteady};
 ghost use Rattle.bfd_sbfd.specs.Settle as settling;
 ghost use Rattle.bfd_sbfd.specs.Over.{IsBegun, IsStill};
 
-use crate::SeekConfig;
+use crate::InitiatorConfig;
 use crate::frame::moves;
 use crate::transmitting::transmits;
 use crate::waiting::deadline;
@@ -22,7 +22,7 @@ use bfd_rules::{Mark, Outs, Vars, enters, may_send, tells};
 /// No answer came: Down with diagnostic 1.
 fn silenced(v: &Vars) -> Vars
     ensures value { result ≡ settling.silenced v.now }
-    ensures plain { (c : ConfigOf) → IsSeekPlain c v.now → IsSeekPlain c result }
+    ensures plain { (c : ConfigOf) → IsInitiatorPlain c v.now → IsInitiatorPlain c result }
 {
     let silent = Vars { heard: None, ..*v };
     enters(State::Down, 1, silent)
@@ -30,10 +30,10 @@ fn silenced(v: &Vars) -> Vars
 
 /// Detection: the Detection Time has expired (RFC 7880 section 7.3.1, RFC 5880 section 6.8.4).
 #[tactic(auto, unfolding(crate::specs::Settle::detection))]
-fn detection(config: &SeekConfig, limit: u64, vars: &mut Vars, outs: &mut Outs)
-    requires steady { IsSeekSteady config.now vars.old }
+fn detection(config: &InitiatorConfig, limit: u64, vars: &mut Vars, outs: &mut Outs)
+    requires steady { IsInitiatorSteady config.now vars.old }
     requires room { 0 < outs.old.spare }
-    ensures steady { IsSeekSteady config.now vars.new }
+    ensures steady { IsInitiatorSteady config.now vars.new }
     ensures course { (m : MarkOf) → course vars.new m outs.new.items
         ≡ settling.detection config.now limit (course vars.old m outs.old.items) }
     ensures late { due.has_come limit (deadline_of vars.new) ≡ false }
@@ -50,18 +50,24 @@ fn detection(config: &SeekConfig, limit: u64, vars: &mut Vars, outs: &mut Outs)
 fn based(eff: u64, v: &Vars) -> Vars
     requires eff { eff < moment_bound }
     ensures value { result ≡ record v.now { base = eff } }
-    ensures steady { (c : ConfigOf) → IsSeekSteady c v.now → IsSeekSteady c result }
+    ensures steady { (c : ConfigOf) → IsInitiatorSteady c v.now → IsInitiatorSteady c result }
 {
     Vars { base: eff, ..*v }
 }
 
 /// A periodic packet (RFC 5880 section 6.8.7).
 #[tactic(auto, unfolding(crate::specs::Settle::periodic_packet))]
-fn periodic_packet(config: &SeekConfig, eff: u64, vars: &mut Vars, mark: &mut Mark, outs: &mut Outs)
-    requires steady { IsSeekSteady config.now vars.old }
+fn periodic_packet(
+    config: &InitiatorConfig,
+    eff: u64,
+    vars: &mut Vars,
+    mark: &mut Mark,
+    outs: &mut Outs,
+)
+    requires steady { IsInitiatorSteady config.now vars.old }
     requires eff { eff < moment_bound }
     requires room { 0 < outs.old.spare }
-    ensures steady { IsSeekSteady config.now vars.new }
+    ensures steady { IsInitiatorSteady config.now vars.new }
     ensures course { course vars.new mark.new outs.new.items
         ≡ settling.periodic_packet config.now eff (course vars.old mark.old outs.old.items) }
     ensures value { vars.new ≡ record vars.old { base = eff } }
@@ -78,17 +84,17 @@ fn periodic_packet(config: &SeekConfig, eff: u64, vars: &mut Vars, mark: &mut Ma
 /// Periodic: a periodic packet is due (RFC 5880 section 6.8.7).
 #[tactic(auto, unfolding(crate::specs::Settle::periodic))]
 fn periodic(
-    config: &SeekConfig,
+    config: &InitiatorConfig,
     limit: u64,
     eff: u64,
     vars: &mut Vars,
     mark: &mut Mark,
     outs: &mut Outs,
 )
-    requires steady { IsSeekSteady config.now vars.old }
+    requires steady { IsInitiatorSteady config.now vars.old }
     requires eff { eff < moment_bound }
     requires room { 0 < outs.old.spare }
-    ensures steady { IsSeekSteady config.now vars.new }
+    ensures steady { IsInitiatorSteady config.now vars.new }
     ensures course { course vars.new mark.new outs.new.items
         ≡ settling.periodic config.now limit eff (course vars.old mark.old outs.old.items) }
     ensures answered { mark.new.answered ≡ mark.old.answered }
@@ -109,17 +115,17 @@ fn periodic(
 /// Does what has come due by the limit, at the effective moment `eff`, both in microseconds.
 #[tactic(auto, using(bfd_rules::proofs::Still::unchanged_state), unfolding(crate::specs::Settle::settle))]
 pub fn settle(
-    config: &SeekConfig,
+    config: &InitiatorConfig,
     limit: u64,
     eff: u64,
     vars: &mut Vars,
     mark: &mut Mark,
     outs: &mut Outs,
 )
-    requires steady { IsSeekSteady config.now vars.old }
+    requires steady { IsInitiatorSteady config.now vars.old }
     requires eff { eff < moment_bound }
     requires room { 1 < outs.old.spare }
-    ensures steady { IsSeekSteady config.now vars.new }
+    ensures steady { IsInitiatorSteady config.now vars.new }
     ensures course { course vars.new mark.new outs.new.items
         ≡ settling.settle config.now limit eff (course vars.old mark.old outs.old.items) }
     ensures late { due.has_come limit (deadline_of vars.new) ≡ false }

@@ -4,7 +4,7 @@ ghost use Rattle.bfd_rules.specs.declared.variables.Mark.{Mark};
 ghost use Rattle.bfd_rules.specs.EventFrame.{course};
 ghost use Rattle.bfd_sbfd.specs.Transmit as transmit;
 
-use crate::SeekConfig;
+use crate::InitiatorConfig;
 use bfd_packet::{Control, Datagram, SOURCE_PORT, write_plain};
 use bfd_rules::{Outs, Vars, adv_tx, sends};
 
@@ -12,7 +12,7 @@ use bfd_rules::{Outs, Vars, adv_tx, sends};
 pub const SBFD_PORT: u16 = 7784;
 
 /// The fields of a transmitted packet: D is set, P and F are clear.
-fn packet_of(config: &SeekConfig, v: &Vars) -> Control
+fn packet_of(config: &InitiatorConfig, v: &Vars) -> Control
     ensures { result ≡ transmit.packet_of config.now v.now }
 {
     Control {
@@ -36,7 +36,7 @@ fn packet_of(config: &SeekConfig, v: &Vars) -> Control
 
 /// Transmits a packet.
 #[tactic(auto, unfolding(crate::specs::Transmit::transmits))]
-pub fn transmits(config: &SeekConfig, vars: &Vars, outs: &mut Outs)
+pub fn transmits(config: &InitiatorConfig, vars: &Vars, outs: &mut Outs)
     requires diag { vars.now.diag < 32 }
     requires room { 0 < outs.old.spare }
     ensures course { (m : Mark) → course vars.now m outs.new.items

@@ -1,7 +1,7 @@
 -- What is true of what a line says: each number is within its field.
 use Rattle.std.specs.Prelude.{◌≡◌, ◌<◌, ◌≤◌, ◌^◌, ℕ, Option, Some, None, List, [], ◌∷◌, ◌++◌, length}
 use Rattle.bfd_session.specs.Step.{IsFit}
-use Rattle.bfd_sbfd.specs.declared.config.SeekConfig.{SeekConfig}
+use Rattle.bfd_sbfd.specs.declared.config.InitiatorConfig.{InitiatorConfig}
 use Rattle.bfd_sbfd.specs.declared.reflecting.Reflector.{Reflector}
 use Rattle.bfd_mp.specs.declared.config.HeadConfig.{HeadConfig}
 use Rattle.bfd_mp.specs.declared.config.TailConfig.{TailConfig}
@@ -13,7 +13,7 @@ use Rattle.bfd_packet.specs.declared.keys.AuthType.{AuthType}
 use Rattle.bfd_packet.specs.declared.keys.Key.{Key}
 use Rattle.bfd_rules.specs.declared.config.Config.{Config}
 use Rattle.bfd_session.specs.declared.event.SessionConfig.{SessionConfig}
-use Rattle.bfd_session.specs.declared.event.SessionConfig.TheVariants.{Pair, Seek, Head, Tail}
+use Rattle.bfd_session.specs.declared.event.SessionConfig.TheVariants.{Pair, Initiator, Head, Tail}
 use Rattle.bfd_script.specs.declared.line.entries.Entry.{Entry}
 use Rattle.bfd_script.specs.declared.line.entries.Entry.TheVariants as entries
 use Rattle.bfd_script.specs.declared.line.entries.Line.{Line}
@@ -57,7 +57,7 @@ pub record IsPairRow (c : Config) : Type 0 where
   pub keys : AreKeys c.keys
 
 -- the numbers of an `sbfd` line fit their fields
-pub record IsSeekRow (c : SeekConfig) : Type 0 where
+pub record IsInitiatorRow (c : InitiatorConfig) : Type 0 where
   pub discr : c.discr < 2 ^ 32
   pub target : c.target < 2 ^ 32
   pub local : IsAddress c.local
@@ -81,7 +81,7 @@ pub record IsTailRow (c : TailConfig) : Type 0 where
 -- a session as its table lines give it
 abbrev pub IsRow : SessionConfig → Type 0
 IsRow (Pair c) = IsPairRow c
-IsRow (Seek c) = IsSeekRow c
+IsRow (Initiator c) = IsInitiatorRow c
 IsRow (Head c) = IsHeadRow c
 IsRow (Tail c) = IsTailRow c
 

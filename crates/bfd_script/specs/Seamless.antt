@@ -3,7 +3,7 @@ use Rattle.std.specs.Prelude.{ℕ, Bool, true, false, List, [], ◌∷◌, codes
 use Rattle.std.specs.Str.{bytes_eq}
 use Rattle.bfd_sbfd.specs.declared.reflecting.Reflector.{Reflector}
 use Rattle.bfd_session.specs.declared.event.SessionConfig.{SessionConfig}
-use Rattle.bfd_session.specs.declared.event.SessionConfig.TheVariants.{Seek}
+use Rattle.bfd_session.specs.declared.event.SessionConfig.TheVariants.{Initiator}
 use Rattle.bfd_script.specs.declared.fields.fault.LineFault.{LineFault}
 use Rattle.bfd_script.specs.declared.fields.fault.LineFault.TheVariants.{UnknownWord, FieldCount}
 use Rattle.bfd_script.specs.Fields.{number_in}
@@ -21,16 +21,25 @@ initiator_of discr target iface local remote tx mult seed = do
   tx ← number_in 10000 60000000 tx
   mult ← number_in 1 255 mult
   seed ← number_in 0 4294967295 seed
-  Ok (Seek (record { discr = discr; target = target; iface = iface; local = local; remote = remote; tx = tx; mult = mult; seed = seed }))
+  Ok (Initiator (record {
+    discr = discr;
+    target = target;
+    iface = iface;
+    local = local;
+    remote = remote;
+    tx = tx;
+    mult = mult;
+    seed = seed;
+  }))
 
 -- the initiator of the first two values and the others
-abbrev pub seek_with : List ℕ → List ℕ → List (List ℕ) → Result SessionConfig LineFault
-seek_with discr target (iface ∷ local ∷ remote ∷ tx ∷ mult ∷ seed ∷ []) = initiator_of discr target iface local remote tx mult seed
-seek_with discr target values = Err FieldCount
+abbrev pub initiator_with : List ℕ → List ℕ → List (List ℕ) → Result SessionConfig LineFault
+initiator_with discr target (iface ∷ local ∷ remote ∷ tx ∷ mult ∷ seed ∷ []) = initiator_of discr target iface local remote tx mult seed
+initiator_with discr target values = Err FieldCount
 
 -- the initiator of an `sbfd` line
 abbrev pub sbfd_row : List (List ℕ) → Result SessionConfig LineFault
-sbfd_row (discr ∷ target ∷ rest) = seek_with discr target rest
+sbfd_row (discr ∷ target ∷ rest) = initiator_with discr target rest
 sbfd_row values = Err FieldCount
 
 -- whether the reflector is Up or set to AdminDown (RFC 7880 section 7.2.3)

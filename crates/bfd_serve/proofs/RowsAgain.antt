@@ -1,7 +1,7 @@
 -- Table rows, written and read again.
 use Rattle.bfd_serve.proofs.SpellingCommon.{◌≡◌, ℕ, ◌≤◌, Bool, true, false, cond, [], ◌∷◌, length, None, Ok, Err, refl, arith, nat_tests}
 use Rattle.bfd_serve.proofs.SpellingCommon.{codes, decimal, AllByRecursion, SessionConfig, OutOfRange, Version, entry_in_line, IsHeadRow}
-use Rattle.bfd_serve.proofs.SpellingCommon.{IsPairRow, IsReflector, IsRow, IsSeekRow, IsTailRow, spaced, address_field, mode_field}
+use Rattle.bfd_serve.proofs.SpellingCommon.{IsPairRow, IsReflector, IsRow, IsInitiatorRow, IsTailRow, spaced, address_field, mode_field}
 use Rattle.bfd_serve.proofs.SpellingCommon.{reflector_fields, role_field, row_fields, up_field}
 use Rattle.bfd_rules.specs.Sound.{IsConfig, is_echo_interval}
 use Rattle.bfd_rules.specs.declared.config.Config.{Config}
@@ -10,10 +10,10 @@ use Rattle.bfd_rules.specs.declared.config.Role.TheVariants as roles
 use Rattle.bfd_mp.specs.Sound.{IsHeadConfig, IsTailConfig}
 use Rattle.bfd_mp.specs.declared.config.HeadConfig.{HeadConfig}
 use Rattle.bfd_mp.specs.declared.config.TailConfig.{TailConfig}
-use Rattle.bfd_sbfd.specs.Sound.{IsSeekConfig}
-use Rattle.bfd_sbfd.specs.declared.config.SeekConfig.{SeekConfig}
+use Rattle.bfd_sbfd.specs.Sound.{IsInitiatorConfig}
+use Rattle.bfd_sbfd.specs.declared.config.InitiatorConfig.{InitiatorConfig}
 use Rattle.bfd_sbfd.specs.declared.reflecting.Reflector.{Reflector}
-use Rattle.bfd_session.specs.declared.event.SessionConfig.TheVariants.{Pair, Seek, Head, Tail}
+use Rattle.bfd_session.specs.declared.event.SessionConfig.TheVariants.{Pair, Initiator, Head, Tail}
 use Rattle.bfd_session.specs.Step.{IsFit}
 use Rattle.bfd_script.specs.declared.line.entries.Entry.TheVariants as entries
 use Rattle.bfd_script.specs.declared.line.words.Place.TheVariants as places
@@ -163,11 +163,11 @@ echo_most roles.Multi n h = grind (arith, nat_tests)
 
 -- ---- an initiator, a head and a tail
 
-seek_read : {c : SeekConfig} → IsSeekConfig c → IsSeekRow c
+initiator_read : {c : InitiatorConfig} → IsInitiatorConfig c → IsInitiatorRow c
     → initiator_of (decimal c.discr) (decimal c.target) (decimal c.iface) (address_field c.local) (address_field c.remote) (decimal c.tx)
-    (decimal c.mult) (decimal c.seed) ≡ Ok (Seek c)
+    (decimal c.mult) (decimal c.seed) ≡ Ok (Initiator c)
 unfolding initiator_of
-seek_read {c} fit row = rw (
+initiator_read {c} fit row = rw (
   number_again 1 4294967295 _ fit.discr (let k = row.discr in omega arith) (let k = row.discr in omega arith),
   number_again 1 4294967295 _ fit.target (let k = row.target in omega arith) (let k = row.target in omega arith),
   number_again 0 65535 c.iface (omega arith) (let k = fit.iface in omega arith) (let k = fit.iface in omega arith),
@@ -178,8 +178,8 @@ seek_read {c} fit row = rw (
   number_again 0 4294967295 c.seed (omega arith) (let k = row.seed in omega arith) (let k = row.seed in omega arith),
 ) refl
 
-seek_fields : {c : SeekConfig} → IsSeekConfig c → IsSeekRow c → AllByRecursion IsField (row_fields (Seek c))
-seek_fields {c} fit row = (
+initiator_fields : {c : InitiatorConfig} → IsInitiatorConfig c → IsInitiatorRow c → AllByRecursion IsField (row_fields (Initiator c))
+initiator_fields {c} fit row = (
   word (codes "sbfd") refl,
   (
     number_field c.discr (let k = row.discr in omega arith),
@@ -202,8 +202,8 @@ seek_fields {c} fit row = (
   ),
 )
 
-seek_short : {c : SeekConfig} → IsSeekConfig c → IsSeekRow c → total (row_fields (Seek c)) ≤ 4096
-seek_short {c} fit row =
+initiator_short : {c : InitiatorConfig} → IsInitiatorConfig c → IsInitiatorRow c → total (row_fields (Initiator c)) ≤ 4096
+initiator_short {c} fit row =
     let l1 = number_short c.discr (let k = row.discr in omega arith) in
     let l2 = number_short c.target (let k = row.target in omega arith) in
     let l3 = number_short c.iface (let k = fit.iface in omega arith) in
@@ -304,7 +304,7 @@ bare config = config
 
 pub row_fields_fit : (c : SessionConfig) → IsFit c → IsRow c → AllByRecursion IsField (row_fields c)
 row_fields_fit (Pair c) fit row = row_is_fields fit row (echo_most c.role c.echo fit.echo_range)
-row_fields_fit (Seek c) fit row = seek_fields fit row
+row_fields_fit (Initiator c) fit row = initiator_fields fit row
 row_fields_fit (Head c) fit row = head_fields fit row
 row_fields_fit (Tail c) fit row = tail_fields fit row
 
@@ -320,11 +320,11 @@ row_again version live (Pair c) fit row =
           (row_is_fields fit row high) (row_short fit row high),
       pair_again fit row high,
     )
-row_again version live (Seek c) fit row = cc (
+row_again version live (Initiator c) fit row = cc (
   entry_again version places.Table live (codes "sbfd") (decimal c.discr ∷ decimal c.target ∷ decimal c.iface ∷ address_field c.local ∷
       address_field c.remote ∷ decimal c.tx ∷ decimal c.mult ∷ decimal c.seed ∷ [])
-      (seek_fields fit row) (seek_short fit row),
-  seek_read fit row,
+      (initiator_fields fit row) (initiator_short fit row),
+  initiator_read fit row,
 )
 row_again version live (Head c) fit row = cc (
   entry_again version places.Table live (codes "head") (decimal c.discr ∷ decimal c.iface ∷ address_field c.local ∷ address_field c.group ∷

@@ -1,11 +1,12 @@
 -- A tick comes exactly when the moment that it rounds has come; and what a tick leaves is not due by it.
 use Rattle.bfd_session.proofs.Common.{◌≡◌, ◌||◌, ◌*◌, ℕ, false, refl, sym, ap, ◌∙◌, Option, None, Some, arith, or_parts, nat_tests, nat_le}
-use Rattle.bfd_session.proofs.Common.{ceil_tick, floor_tick, has_come, sooner, Echo, due, tick_of, IsEchoOver, pair_of, seek_of, head_of}
+use Rattle.bfd_session.proofs.Common.{ceil_tick, floor_tick, has_come, sooner, Echo, due, tick_of, IsEchoOver, pair_of, initiator_of}
+use Rattle.bfd_session.proofs.Common.{head_of}
 use Rattle.bfd_session.proofs.Common.{tail_of}
 use Rattle.bfd_p2p.specs.Machine as pair
 use Rattle.bfd_p2p.specs.Over.{IsOver}
-use Rattle.bfd_sbfd.specs.Machine as seek
-use Rattle.bfd_sbfd.specs.Over as seek_left
+use Rattle.bfd_sbfd.specs.Machine as initiator
+use Rattle.bfd_sbfd.specs.Over as initiator_left
 use Rattle.bfd_mp.specs.Machine as tree
 use Rattle.bfd_mp.specs.Over.{IsHeadOver, IsTailOver}
 
@@ -65,8 +66,9 @@ pair_over m echo next limit t at over echo_over = neither t _ _ (later limit t _
     (neither t _ _ (later limit t _ at over.seq_late)
     (neither t _ _ (due_later limit t _ at over.due_later) (due_later limit t _ at echo_over)))
 
-pub seek_over : (m : seek.Machine) (limit t : ℕ) → limit ≡ 1000 * t → seek_left.IsOver limit m.vars → has_come t (due (seek_of m)) ≡ false
-seek_over m limit t at over = neither t _ _ (later limit t _ at over.late) (due_later limit t _ at over.due_later)
+pub initiator_over : (m : initiator.Machine) (limit t : ℕ) → limit ≡ 1000 * t → initiator_left.IsOver limit m.vars
+    → has_come t (due (initiator_of m)) ≡ false
+initiator_over m limit t at over = neither t _ _ (later limit t _ at over.late) (due_later limit t _ at over.due_later)
 
 pub head_over : (m : tree.HeadMachine) (limit t : ℕ) → limit ≡ 1000 * t → IsHeadOver limit m.vars → has_come t (due (head_of m)) ≡ false
 head_over m limit t at over = due_later limit t _ at over.due_later

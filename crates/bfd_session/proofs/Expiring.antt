@@ -5,15 +5,15 @@ use Rattle.bfd_session.proofs.Common.{seq_deadline, is_up, demand_here, may_send
 use Rattle.bfd_session.proofs.Common.{renewed, Course, enters, changes, sends, is_untold, redrawn, renews, moves, transmits, failed}
 use Rattle.bfd_session.proofs.Common.{HeadConfig, Echo, EchoResult, Failed, SessionConfig, Pair, Running, Flow, detects, detects_by}
 use Rattle.bfd_session.proofs.Common.{settled_by, settled_running, settles_echo, echoing, sound_by, tick, tick_next, ticked_flow, begun}
-use Rattle.bfd_session.proofs.Common.{Seek, Head, Tail, option_map, IsSound}
+use Rattle.bfd_session.proofs.Common.{Initiator, Head, Tail, option_map, IsSound}
 use Rattle.std.proofs.Math.Bool.{or-false}
 use Rattle.bfd_packet.specs.States.{is_init_or_up}
 use Rattle.bfd_rules.specs.Sound as pair
 use Rattle.bfd_rules.proofs.Heard.{alike, drawn_heard}
 use Rattle.bfd_p2p.specs.Settle as settling
 use Rattle.bfd_p2p.specs.Finish as finishing
-use Rattle.bfd_sbfd.specs.Waiting.{wait, deadline as seek_deadline}
-use Rattle.bfd_sbfd.proofs.Expiry as seek
+use Rattle.bfd_sbfd.specs.Waiting.{wait, deadline as initiator_deadline}
+use Rattle.bfd_sbfd.proofs.Expiry as initiator
 use Rattle.bfd_mp.specs.Waiting.{deadline as tail_deadline}
 use Rattle.bfd_mp.specs.Counting.{counted}
 use Rattle.bfd_mp.specs.Transmit.{transmits as head_transmits}
@@ -168,8 +168,8 @@ tick_by : (c : SessionConfig) (s : Running) (limit eff : ℕ)
     → is_none (tick c limit eff (begun None s [])).course.vars.heard ≡ (is_none s.vars.heard || has_come limit (detects_by c s.vars))
 unfolding tick
 tick_by (Pair c) s limit eff = finish_none c eff _ ∙ settles_echo_none c limit eff _ ∙ settle_none c limit eff (begun None s []).course
-tick_by (Seek c) s limit eff = none_by (has_come limit (seek_deadline s.vars)) s.vars.heard
-    (seek.tick_heard c limit eff (begun None s []).course)
+tick_by (Initiator c) s limit eff = none_by (has_come limit (initiator_deadline s.vars)) s.vars.heard
+    (initiator.tick_heard c limit eff (begun None s []).course)
 tick_by (Head c) s limit eff = cc (head_heard c limit eff (begun None s []).course, or-false (is_none s.vars.heard))
 tick_by (Tail c) s limit eff = none_by (has_come limit (tail_deadline s.vars)) s.vars.heard
     (tail.tail_heard c limit (begun None s []).course)
@@ -192,13 +192,13 @@ deadline_heard : {c : Config} {v : Vars} (here : Bool) → demand_here v ≡ her
 deadline_heard {v} true is plain there = plain.up_heard (demand_up v is)
 deadline_heard {v} false is plain there = mapped_there _ v.heard (rw is at there)
 
-seek_heard : (v : Vars) (up : Bool) → is_up v.state ≡ up → IsSome (seek_deadline v) → IsSome v.heard
-seek_heard v true is there = mapped_there (λ heard. heard + wait v) v.heard (rw is at there)
-seek_heard v false is there = cc
+initiator_heard : (v : Vars) (up : Bool) → is_up v.state ≡ up → IsSome (initiator_deadline v) → IsSome v.heard
+initiator_heard v true is there = mapped_there (λ heard. heard + wait v) v.heard (rw is at there)
+initiator_heard v false is there = cc
 
 heard_by : (c : SessionConfig) (s : Running) → sound_by c s → IsSome (detects_by c s.vars) → IsSome s.vars.heard
 heard_by (Pair c) s sound there = deadline_heard (demand_here s.vars) refl sound.vars.steady.plain there
-heard_by (Seek c) s sound there = seek_heard s.vars (is_up s.vars.state) refl there
+heard_by (Initiator c) s sound there = initiator_heard s.vars (is_up s.vars.state) refl there
 heard_by (Head c) s sound there = cc
 heard_by (Tail c) s sound there = mapped_there _ s.vars.heard there
 

@@ -6,12 +6,12 @@ use Rattle.bfd_session.proofs.Common.{seq_deadline, is_admin_down, Course, is_un
 use Rattle.bfd_session.proofs.Common.{commanded, done, Echo, EchoResult, Nothing, Sent, Failed, SessionConfig, Pair, Event, Packet}
 use Rattle.bfd_session.proofs.Common.{Returned, Command, Show, Running, Flow, along, settled_by, settled_running, settles_echo, echoing}
 use Rattle.bfd_session.proofs.Common.{step, tick, acted, finished, begun, step_from, stepped_flow, emits, answer_of, reply, reply_from}
-use Rattle.bfd_session.proofs.Common.{tick_from, ticked_flow, tick_emits, Seek, Head, Tail, settled, Out, after, either, changes-after}
+use Rattle.bfd_session.proofs.Common.{tick_from, ticked_flow, tick_emits, Initiator, Head, Tail, settled, Out, after, either, changes-after}
 use Rattle.bfd_session.proofs.Common.{sends-after}
 use Rattle.bfd_p2p.specs.Settle as settling
 use Rattle.bfd_p2p.specs.Receive as receiving
 use Rattle.bfd_p2p.specs.Finish as finishing
-use Rattle.bfd_sbfd.proofs.Front as seek
+use Rattle.bfd_sbfd.proofs.Front as initiator
 use Rattle.bfd_mp.proofs.HeadFront as head
 use Rattle.bfd_mp.proofs.TailFront as tail
 
@@ -157,7 +157,7 @@ settled-after : (c : SessionConfig) (limit eff : ℕ) (os : List Out) (f : Flow)
     → settled c limit eff (ahead os f) ≡ ahead os (settled c limit eff f)
 settled-after (Pair c) limit eff os f =
     cc (settle-after c limit eff os f.course, settles_echo-after c limit eff os (along f (settling.settle c limit eff f.course)))
-settled-after (Seek c) limit eff os f = cc (seek.settle-after c limit eff os f.course)
+settled-after (Initiator c) limit eff os f = cc (initiator.settle-after c limit eff os f.course)
 settled-after (Head c) limit eff os f = cc (head.settle-after c limit eff os f.course)
 settled-after (Tail c) limit eff os f = cc (tail.settle-after c limit os f.course)
 
@@ -167,8 +167,8 @@ acted-after (Pair c) eff (Packet arrival) os f = cc (received-after c eff _ _ os
 acted-after (Pair c) eff (Returned sequence) os f = refl
 acted-after (Pair c) eff (Command cmd) os f = cc (commanded-after c eff cmd os f.course)
 acted-after (Pair c) eff Show os f = refl
-acted-after (Seek c) eff (Packet arrival) os f = cc (seek.received-after c eff _ os f.course)
-acted-after (Seek c) eff (Command cmd) os f = cc (seek.commanded-after c cmd os f.course)
+acted-after (Initiator c) eff (Packet arrival) os f = cc (initiator.received-after c eff _ os f.course)
+acted-after (Initiator c) eff (Command cmd) os f = cc (initiator.commanded-after c cmd os f.course)
 acted-after (Head c) eff (Command cmd) os f = cc (head.commanded-after c cmd os f.course)
 acted-after (Tail c) eff (Packet arrival) os f = cc (tail.received-after c eff _ os f.course)
 acted-after (Tail c) eff (Command cmd) os f = cc (tail.commanded-after c cmd os f.course)
@@ -176,7 +176,7 @@ acted-after c eff event os f = refl
 
 finished-after : (c : SessionConfig) (eff : ℕ) (os : List Out) (f : Flow) → finished c eff (ahead os f) ≡ ahead os (finished c eff f)
 finished-after (Pair c) eff os f = cc (finish-after c eff os f.course)
-finished-after (Seek c) eff os f = cc (seek.finish-after c eff os f.course)
+finished-after (Initiator c) eff os f = cc (initiator.finish-after c eff os f.course)
 finished-after (Head c) eff os f = cc (head.finish-after c eff os f.course)
 finished-after (Tail c) eff os f = refl
 
@@ -263,7 +263,7 @@ pub step_leaves : (c : SessionConfig) (eff : ℕ) (event : Event) (f : Flow) →
     → LeavesEcho (step c eff event f) f.echo f.echo_next
 unfolding step
 step_leaves (Pair c) eff event f kind = elim kind [ ]
-step_leaves (Seek c) eff (Packet arrival) f kind = record { echo_kept = refl; number_kept = refl }
+step_leaves (Initiator c) eff (Packet arrival) f kind = record { echo_kept = refl; number_kept = refl }
 step_leaves (Head c) eff (Packet arrival) f kind = record { echo_kept = refl; number_kept = refl }
 step_leaves (Tail c) eff (Packet arrival) f kind = record { echo_kept = refl; number_kept = refl }
 step_leaves c eff event f kind = record { echo_kept = refl; number_kept = refl }

@@ -20,6 +20,6 @@ pub mod Own
 pub mod Expiring
 pub mod Discarding
 pub mod Searches
-pub mod Seeking
+pub mod Initiating
 pub mod Mirrors
 pub mod Unrepeated

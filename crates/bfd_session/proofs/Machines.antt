@@ -1,7 +1,8 @@
 -- A machine at the end of an event, as a session.
-use Rattle.bfd_session.proofs.Common.{◌≡◌, ℕ, Option, None, sym, ap, ◌∙◌, Echo, pair_of, seek_of, head_of, tail_of, Running, Flow, left_by}
+use Rattle.bfd_session.proofs.Common.{◌≡◌, ℕ, Option, None, sym, ap, ◌∙◌, Echo, pair_of, initiator_of, head_of, tail_of, Running, Flow}
+use Rattle.bfd_session.proofs.Common.{left_by}
 use Rattle.bfd_p2p.specs.Machine as pair
-use Rattle.bfd_sbfd.specs.Machine as seek
+use Rattle.bfd_sbfd.specs.Machine as initiator
 use Rattle.bfd_mp.specs.Machine as tree
 use Rattle.bfd_session.proofs.Front.{LeavesEcho}
 
@@ -15,9 +16,10 @@ pub pair_with : (m : pair.Machine) {n : pair.Machine} (old : Option Echo) {new :
     → pair_of n new after ≡ left_by f (pair_of m old before)
 pair_with m old before f config vars echo number = running (cc) vars echo number
 
-pub seek_with : (m : seek.Machine) {n : seek.Machine} {f : Flow} → n.config ≡ m.config → n.vars ≡ f.course.vars → LeavesEcho f None 0
-    → seek_of n ≡ left_by f (seek_of m)
-seek_with m config vars left = running (cc) vars (sym left.echo_kept) (sym left.number_kept)
+pub initiator_with : (m : initiator.Machine) {n : initiator.Machine} {f : Flow} → n.config ≡ m.config → n.vars ≡ f.course.vars
+    → LeavesEcho f None 0
+    → initiator_of n ≡ left_by f (initiator_of m)
+initiator_with m config vars left = running (cc) vars (sym left.echo_kept) (sym left.number_kept)
 
 pub head_with : (m : tree.HeadMachine) {n : tree.HeadMachine} {f : Flow} → n.config ≡ m.config → n.vars ≡ f.course.vars
     → LeavesEcho f None 0

@@ -4,13 +4,14 @@ use Rattle.bfd_session.proofs.Common.{if◌then◌else◌, AllByRecursion, Contr
 use Rattle.bfd_session.proofs.Common.{may_send, deadline, seq_deadline, is_admin_down, Course, changes, sends, is_untold, redrawn, renews}
 use Rattle.bfd_session.proofs.Common.{moves, transmits, refusal, commanded, Echo, EchoResult, Nothing, Failed, SessionConfig, Pair, Event}
 use Rattle.bfd_session.proofs.Common.{Packet, Returned, Command, Show, Running, Flow, discr_of, settled_by, settled_running, settles_echo}
-use Rattle.bfd_session.proofs.Common.{echoing, step, tick, acted, finished, begun, stepped_flow, ticked_flow, emits, tick_emits, Seek, Head}
+use Rattle.bfd_session.proofs.Common.{echoing, step, tick, acted, finished, begun, stepped_flow, ticked_flow, emits, tick_emits, Initiator}
+use Rattle.bfd_session.proofs.Common.{Head}
 use Rattle.bfd_session.proofs.Common.{Tail, settled, own_name, changes_names, sends_names}
 use Rattle.bfd_packet.specs.declared.arrival.Datagram.{Datagram}
 use Rattle.bfd_p2p.specs.Settle as settling
 use Rattle.bfd_p2p.specs.Receive as receiving
 use Rattle.bfd_p2p.specs.Finish as finishing
-use Rattle.bfd_sbfd.proofs.Naming as seek
+use Rattle.bfd_sbfd.proofs.Naming as initiator
 use Rattle.bfd_mp.proofs.Naming as tree
 use Rattle.bfd_echo.specs.declared.echo.EchoResult.TheVariants.{Sent as Packets}
 use Rattle.bfd_rules.specs.Names.{named}
@@ -140,7 +141,7 @@ settles_echo-names c limit eff f h = settled_running-names c limit eff (echoing 
 settled-names : (c : SessionConfig) (limit eff : ℕ) (f : Flow) → Names (discr_of c) f.course
     → Names (discr_of c) (settled c limit eff f).course
 settled-names (Pair c) limit eff f h = settles_echo-names c limit eff _ (settle-names c limit eff h)
-settled-names (Seek c) limit eff f h = record { all = seek.settle_names c _ limit eff f.course (own_name c.discr) h.all }
+settled-names (Initiator c) limit eff f h = record { all = initiator.settle_names c _ limit eff f.course (own_name c.discr) h.all }
 settled-names (Head c) limit eff f h = record { all = tree.head_settle_names c _ limit eff f.course (own_name c.discr) h.all }
 settled-names (Tail c) limit eff f h = record { all = tree.tail_settle_names c _ limit f.course (own_name c.discr) h.all }
 
@@ -150,10 +151,10 @@ acted-names (Pair c) eff (Packet arrival) f h = received-names c eff _ _ h
 acted-names (Pair c) eff (Returned sequence) f h = h
 acted-names (Pair c) eff (Command cmd) f h = commanded-names c eff cmd h
 acted-names (Pair c) eff Show f h = h
-acted-names (Seek c) eff (Packet arrival) f h = record {
-  all = seek.received_names c _ eff arrival.payload f.course (own_name c.discr) h.all;
+acted-names (Initiator c) eff (Packet arrival) f h = record {
+  all = initiator.received_names c _ eff arrival.payload f.course (own_name c.discr) h.all;
 }
-acted-names (Seek c) eff (Command cmd) f h = record { all = seek.commanded_names c _ cmd f.course (own_name c.discr) h.all }
+acted-names (Initiator c) eff (Command cmd) f h = record { all = initiator.commanded_names c _ cmd f.course (own_name c.discr) h.all }
 acted-names (Head c) eff (Command cmd) f h = record { all = tree.head_commanded_names c _ cmd f.course (own_name c.discr) h.all }
 acted-names (Tail c) eff (Packet arrival) f h = record {
   all = tree.received_names c _ eff arrival.payload f.course (own_name c.discr) h.all;
@@ -163,7 +164,7 @@ acted-names c eff event f h = h
 
 finished-names : (c : SessionConfig) (eff : ℕ) (f : Flow) → Names (discr_of c) f.course → Names (discr_of c) (finished c eff f).course
 finished-names (Pair c) eff f h = finish-names c eff h
-finished-names (Seek c) eff f h = record { all = seek.finish_names c _ eff f.course (own_name c.discr) h.all }
+finished-names (Initiator c) eff f h = record { all = initiator.finish_names c _ eff f.course (own_name c.discr) h.all }
 finished-names (Head c) eff f h = record { all = tree.head_finish_names c _ eff f.course (own_name c.discr) h.all }
 finished-names (Tail c) eff f h = h
 

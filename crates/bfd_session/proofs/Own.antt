@@ -7,7 +7,7 @@ use Rattle.bfd_session.proofs.Common.{Cmd, Config, Vars, is_admin_down, poll_ren
 use Rattle.bfd_session.proofs.Common.{IsPlain, IsPlace, HasPeerMult, IsSteady, is_interval, renews, moves, transmits, key_place}
 use Rattle.bfd_session.proofs.Common.{is_wrong_kind, is_out_of_range, refusal, path_done, demand_done, done, commanded, HeadConfig, Echo}
 use Rattle.bfd_session.proofs.Common.{HasMoments, SessionConfig, Pair, Event, Packet, Returned, Command, Show, Running, Flow, left_by}
-use Rattle.bfd_session.proofs.Common.{echoing, back_to, CanTake, HasSize, step, acted, begun, next, stepped_flow, Seek, Head, Tail}
+use Rattle.bfd_session.proofs.Common.{echoing, back_to, CanTake, HasSize, step, acted, begun, next, stepped_flow, Initiator, Head, Tail}
 use Rattle.bfd_session.proofs.Common.{option_map, KeyChain, place_of, no_key, returned_moments}
 use Rattle.std.proofs.lemmas.List.Quantifiers.{position-Some}
 use Rattle.bfd_packet.specs.declared.control.State.TheVariants.{AdminDown}
@@ -15,9 +15,9 @@ use Rattle.bfd_packet.specs.declared.keys.Key.{Key}
 use Rattle.bfd_rules.specs.declared.commands.Cmd.TheVariants.{Disable, Enable, Reset, Path, Tx, Rx, Mult, Demand, EchoEvery, Key as KeyOf}
 use Rattle.bfd_rules.specs.declared.commands.Refusal.{Refusal}
 use Rattle.bfd_p2p.specs.Receive as receiving
-use Rattle.bfd_sbfd.specs.declared.config.SeekConfig.{SeekConfig}
-use Rattle.bfd_sbfd.specs.Sound.{IsSeekSteady, IsSeekSound}
-use Rattle.bfd_sbfd.proofs.Soundness as seek
+use Rattle.bfd_sbfd.specs.declared.config.InitiatorConfig.{InitiatorConfig}
+use Rattle.bfd_sbfd.specs.Sound.{IsInitiatorSteady, IsInitiatorSound}
+use Rattle.bfd_sbfd.proofs.Soundness as initiator
 use Rattle.bfd_mp.specs.declared.config.TailConfig.{TailConfig}
 use Rattle.bfd_mp.specs.Sound.{IsHeadSteady, IsHeadSound, IsTailSound}
 use Rattle.bfd_mp.proofs.Soundness as tree
@@ -282,12 +282,12 @@ pair_sound {c} {s} {eff} event h takes sized sound = pair_finished_sound s h (ac
 
 -- what an event of another kind leaves of the variables, and of the Echo function
 
-seek_vars : {c : SeekConfig} {eff : ℕ} (event : Event) (f : Flow) → eff < moment_bound → HasSize (Seek c) event
-    → IsSeekSteady c f.course.vars → IsSeekSound c (step (Seek c) eff event f).course.vars
+initiator_vars : {c : InitiatorConfig} {eff : ℕ} (event : Event) (f : Flow) → eff < moment_bound → HasSize (Initiator c) event
+    → IsInitiatorSteady c f.course.vars → IsInitiatorSound c (step (Initiator c) eff event f).course.vars
 unfolding step
-seek_vars {c} {eff} (Packet arrival) f h sized steady = seek.packet_sound c eff eff arrival.payload f.course h sized steady
-seek_vars {c} {eff} (Command cmd) f h sized steady = seek.command_sound c eff eff cmd f.course h steady
-seek_vars {c} {eff} event f h sized steady = seek.tick_sound c eff eff f.course h steady
+initiator_vars {c} {eff} (Packet arrival) f h sized steady = initiator.packet_sound c eff eff arrival.payload f.course h sized steady
+initiator_vars {c} {eff} (Command cmd) f h sized steady = initiator.command_sound c eff eff cmd f.course h steady
+initiator_vars {c} {eff} event f h sized steady = initiator.tick_sound c eff eff f.course h steady
 
 head_vars : (c : HeadConfig) {eff : ℕ} (event : Event) (f : Flow) → eff < moment_bound
     → IsHeadSteady f.course.vars → IsHeadSound (step (Head c) eff event f).course.vars
@@ -313,9 +313,9 @@ plain_sound IsVars none left vars = record {
 sound_after : (c : SessionConfig) (s : Running) {eff : ℕ} (event : Event) → eff < moment_bound → CanTake c event → HasSize c event
     → session.sound_by c s → session.sound_by c (left_by (step c eff event (begun (Some eff) s [])) s)
 sound_after (Pair c) s event h takes sized sound = pair_sound event h takes sized sound
-sound_after (Seek c) s {eff} event h takes sized sound =
-    plain_sound (IsSeekSound c) sound.echoless (step_leaves (Seek c) eff event (begun (Some eff) s []) tt)
-    (seek_vars event (begun (Some eff) s []) h sized (seek.stamped_steady c eff _ h sound.vars.steady))
+sound_after (Initiator c) s {eff} event h takes sized sound =
+    plain_sound (IsInitiatorSound c) sound.echoless (step_leaves (Initiator c) eff event (begun (Some eff) s []) tt)
+    (initiator_vars event (begun (Some eff) s []) h sized (initiator.stamped_steady c eff _ h sound.vars.steady))
 sound_after (Head c) s {eff} event h takes sized sound =
     plain_sound IsHeadSound sound.echoless (step_leaves (Head c) eff event (begun (Some eff) s []) tt)
     (head_vars c event (begun (Some eff) s []) h (tree.head_stamped_steady eff _ h sound.vars.steady))

@@ -3,10 +3,10 @@ use Rattle.bfd_session.proofs.Common.{◌≡◌, ◌*◌, ◌++◌, append-nil, 
 use Rattle.bfd_session.proofs.Common.{◌↔◌, List, [], if◌then◌else◌, leb-false, has_come, sooner, Config, Vars, deadline, seq_deadline, Echo}
 use Rattle.bfd_session.proofs.Common.{SessionConfig, Pair, Running, Flow, due, due_by, tick_of, should_echo, echoing, interval_of, echo_due}
 use Rattle.bfd_session.proofs.Common.{settled_running, settles_echo, goes_on, number_by, number_after, turns_echo, IsPairSound, sound_by}
-use Rattle.bfd_session.proofs.Common.{tick, tick_next, ticked_flow, tick_emits, begun, Seek, Head, Tail, option_map, IsSound, Out}
+use Rattle.bfd_session.proofs.Common.{tick, tick_next, ticked_flow, tick_emits, begun, Initiator, Head, Tail, option_map, IsSound, Out}
 use Rattle.bfd_p2p.proofs.Repeated.{settle_rests, finish_rests}
-use Rattle.bfd_sbfd.specs.Waiting.{deadline as seek_deadline}
-use Rattle.bfd_sbfd.proofs.Rest as seek
+use Rattle.bfd_sbfd.specs.Waiting.{deadline as initiator_deadline}
+use Rattle.bfd_sbfd.proofs.Rest as initiator
 use Rattle.bfd_mp.proofs.Rest as tree
 use Rattle.bfd_echo.specs.Timing.{due as echo_tick}
 use Rattle.bfd_echo.proofs.DueTick.{outcome_rests}
@@ -67,9 +67,9 @@ tick_rests : (c : SessionConfig) (s : Running) (t eff : ℕ) → sound_by c s �
     → tick c (1000 * t) eff (begun None s []) ≡ begun None s []
 unfolding tick
 tick_rests (Pair c) s t eff sound nothing = pair_rests t eff sound nothing
-tick_rests (Seek c) s t eff sound nothing =
-    let both = parts t (tick_of (seek_deadline s.vars)) s.vars.tx_due nothing in
-    cc (seek.tick_rests c (1000 * t) eff _ [] sound.vars (not_late t _ both.first) (not_due t _ both.second))
+tick_rests (Initiator c) s t eff sound nothing =
+    let both = parts t (tick_of (initiator_deadline s.vars)) s.vars.tx_due nothing in
+    cc (initiator.tick_rests c (1000 * t) eff _ [] sound.vars (not_late t _ both.first) (not_due t _ both.second))
 tick_rests (Head c) s t eff sound nothing = cc (tree.head_rests c (1000 * t) eff _ [] sound.vars (not_due t _ nothing))
 tick_rests (Tail c) s t eff sound nothing = cc (tree.tail_settle_rests c (1000 * t) (begun None s []).course (not_late t _ nothing))
 

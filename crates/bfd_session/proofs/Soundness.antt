@@ -6,7 +6,7 @@ use Rattle.bfd_session.proofs.Common.{is_idle, poll_again, poll_renewed, used_re
 use Rattle.bfd_session.proofs.Common.{sends, draws, drawn, is_untold, based, redrawn, IsPlain, IsRenewed, HasPeerMult, IsSteady, renews}
 use Rattle.bfd_session.proofs.Common.{moves, transmits, failed, Echo, EchoResult, Nothing, Sent, Failed, HasMoments, outcome, SessionConfig}
 use Rattle.bfd_session.proofs.Common.{Pair, Running, Flow, left_by, should_echo, echoing, interval_of, settled_by, settled_running}
-use Rattle.bfd_session.proofs.Common.{settles_echo, goes_on, tick, tick_next, ticked_flow, begun, Seek, Head, Tail, option_map, pick}
+use Rattle.bfd_session.proofs.Common.{settles_echo, goes_on, tick, tick_next, ticked_flow, begun, Initiator, Head, Tail, option_map, pick}
 use Rattle.bfd_session.proofs.Common.{begun_moments, settled_moments}
 use Rattle.bfd_rules.specs.declared.variables.Poll.{Poll}
 use Rattle.bfd_rules.specs.declared.variables.Poll.TheVariants.{Idle, Wanted}
@@ -14,7 +14,7 @@ use Rattle.bfd_rules.specs.Sound.{IsSound}
 use Rattle.bfd_rules.proofs.Drawing.{picked_below, stands_there}
 use Rattle.bfd_p2p.specs.Settle as settling
 use Rattle.bfd_p2p.specs.Finish as finishing
-use Rattle.bfd_sbfd.proofs.Soundness as seek
+use Rattle.bfd_sbfd.proofs.Soundness as initiator
 use Rattle.bfd_mp.proofs.Soundness as tree
 use Rattle.bfd_session.specs.Step as session
 
@@ -304,8 +304,8 @@ sound_after : (c : SessionConfig) (s : Running) (limit : ℕ) {eff : ℕ} → ef
 unfolding tick
 sound_after (Pair c) s limit h sound = pair_finished_sound s h
     (pair_settled_steady c limit (begun None s []) h record { vars = sound.vars.steady; moments = sound.moments })
-sound_after (Seek c) s limit {eff} h sound = record {
-  vars = seek.tick_sound c limit eff (begun None s []).course h sound.vars.steady;
+sound_after (Initiator c) s limit {eff} h sound = record {
+  vars = initiator.tick_sound c limit eff (begun None s []).course h sound.vars.steady;
   echoless = record { none = sound.echoless.none; none_sent = sound.echoless.none_sent };
 }
 sound_after (Head c) s limit {eff} h sound = record {

@@ -17,7 +17,7 @@ use Rattle.bfd_p2p.specs.Receive as receive
 use Rattle.bfd_demux.specs.declared.row.Row.{Row}
 use Rattle.bfd_demux.specs.Selection.{is_multipoint, table_fails, tests_on_header, tests_on_table}
 use Rattle.bfd_session.specs.declared.event.SessionConfig.{SessionConfig}
-use Rattle.bfd_session.specs.declared.event.SessionConfig.TheVariants.{Pair, Seek, Head, Tail}
+use Rattle.bfd_session.specs.declared.event.SessionConfig.TheVariants.{Pair, Initiator, Head, Tail}
 use Rattle.bfd_session.specs.declared.event.Answer.{Answer}
 use Rattle.bfd_session.specs.declared.event.Answer.TheVariants.{Handled, Dropped}
 use Rattle.bfd_session.specs.Kinds.{Running}
@@ -47,14 +47,14 @@ plain_fails v raw test = false
 -- the sentence of each test of a session; a head receives no packets
 abbrev pub own_fails : SessionConfig → Vars → Arrival → Test → Bool
 own_fails (Pair c) v arrival test = pair_fails c v arrival.ttl arrival.payload test
-own_fails (Seek c) v arrival test = plain_fails v arrival.payload test
+own_fails (Initiator c) v arrival test = plain_fails v arrival.payload test
 own_fails (Head c) v arrival test = false
 own_fails (Tail c) v arrival test = plain_fails v arrival.payload test
 
 -- the tests of a session: of an initiator (RFC 7880 section 7.3) and of a tail (RFC 8562 section 5.13) the A bit and AdminDown
 abbrev pub own_tests : SessionConfig → List Test
 own_tests (Pair c) = pair_tests
-own_tests (Seek c) = AuthUnexpected ∷ AdminDown ∷ []
+own_tests (Initiator c) = AuthUnexpected ∷ AdminDown ∷ []
 own_tests (Head c) = []
 own_tests (Tail c) = AuthUnexpected ∷ AdminDown ∷ []
 

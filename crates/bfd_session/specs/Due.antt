@@ -4,10 +4,10 @@ use Rattle.bfd_num.specs.Numbers.{ceil_tick}
 use Rattle.bfd_num.specs.Due.{sooner}
 use Rattle.bfd_rules.specs.declared.variables.Vars.{Vars}
 use Rattle.bfd_rules.specs.Quantities.{deadline, seq_deadline}
-use Rattle.bfd_sbfd.specs.Waiting as seek
+use Rattle.bfd_sbfd.specs.Waiting as initiator
 use Rattle.bfd_mp.specs.Waiting as tail
 use Rattle.bfd_session.specs.declared.event.SessionConfig.{SessionConfig}
-use Rattle.bfd_session.specs.declared.event.SessionConfig.TheVariants.{Pair, Seek, Head, Tail}
+use Rattle.bfd_session.specs.declared.event.SessionConfig.TheVariants.{Pair, Initiator, Head, Tail}
 use Rattle.bfd_session.specs.Kinds.{Running}
 use Rattle.bfd_session.specs.Echoing.{echo_due}
 
@@ -15,7 +15,7 @@ use Rattle.bfd_session.specs.Echoing.{echo_due}
 -- 8562 section 5.11); a head hears nothing
 abbrev pub detects_by : SessionConfig → Vars → Option ℕ
 detects_by (Pair c) v = deadline v
-detects_by (Seek c) v = seek.deadline v
+detects_by (Initiator c) v = initiator.deadline v
 detects_by (Head c) v = None
 detects_by (Tail c) v = tail.deadline v
 
@@ -30,7 +30,7 @@ tick_of moment = option_map ceil_tick moment
 abbrev pub due_by : SessionConfig → Running → Option ℕ
 due_by (Pair c) s =
     sooner (tick_of (deadline s.vars)) (sooner (tick_of (seq_deadline s.vars)) (sooner s.vars.tx_due (echo_due c s.vars s.echo)))
-due_by (Seek c) s = sooner (tick_of (seek.deadline s.vars)) s.vars.tx_due
+due_by (Initiator c) s = sooner (tick_of (initiator.deadline s.vars)) s.vars.tx_due
 due_by (Head c) s = s.vars.tx_due
 due_by (Tail c) s = tick_of (tail.deadline s.vars)
 

@@ -1,11 +1,11 @@
 -- What a session's machine shows.
 use Rattle.std.specs.Prelude.{ℕ, Option, None}
-use Rattle.bfd_session.specs.declared.event.SessionConfig.TheVariants.{Pair, Seek, Head, Tail}
+use Rattle.bfd_session.specs.declared.event.SessionConfig.TheVariants.{Pair, Initiator, Head, Tail}
 use Rattle.bfd_session.specs.declared.session.Machine.{Machine}
-use Rattle.bfd_session.specs.declared.session.Machine.TheVariants.{Pair as PairOf, Seek as SeekOf, Head as HeadOf, Tail as TailOf}
+use Rattle.bfd_session.specs.declared.session.Machine.TheVariants.{Pair as PairOf, Initiator as InitiatorOf, Head as HeadOf, Tail as TailOf}
 use Rattle.bfd_echo.specs.declared.echo.Echo.{Echo}
 use Rattle.bfd_p2p.specs.Machine as pair
-use Rattle.bfd_sbfd.specs.Machine as seek
+use Rattle.bfd_sbfd.specs.Machine as initiator
 use Rattle.bfd_mp.specs.Machine as tree
 use Rattle.bfd_session.specs.Kinds.{Running}
 use Rattle.bfd_session.specs.Step.{IsFit, IsSound}
@@ -15,8 +15,8 @@ abbrev pub pair_of : pair.Machine → Option Echo → ℕ → Running
 pair_of m echo echo_next = record { config = Pair m.config; vars = m.vars; echo = echo; echo_next = echo_next }
 
 -- an initiator's, a head's and a tail's
-abbrev pub seek_of : seek.Machine → Running
-seek_of m = record { config = Seek m.config; vars = m.vars; echo = None; echo_next = 0 }
+abbrev pub initiator_of : initiator.Machine → Running
+initiator_of m = record { config = Initiator m.config; vars = m.vars; echo = None; echo_next = 0 }
 
 abbrev pub head_of : tree.HeadMachine → Running
 head_of m = record { config = Head m.config; vars = m.vars; echo = None; echo_next = 0 }
@@ -27,7 +27,7 @@ tail_of m = record { config = Tail m.config; vars = m.vars; echo = None; echo_ne
 -- a machine as a session
 abbrev pub running_of : Machine → Running
 running_of (PairOf m echo echo_next) = pair_of m echo echo_next
-running_of (SeekOf m) = seek_of m
+running_of (InitiatorOf m) = initiator_of m
 running_of (HeadOf m) = head_of m
 running_of (TailOf m) = tail_of m
 

@@ -7,11 +7,12 @@ use Rattle.bfd_rules.specs.declared.config.Role.TheVariants.{Single, Multi}
 use Rattle.bfd_sbfd.specs.declared.reflecting.Reflector.{Reflector}
 use Rattle.bfd_demux.specs.declared.row.Row.{Row}
 use Rattle.bfd_demux.specs.declared.row.RowKind.{RowKind}
-use Rattle.bfd_demux.specs.declared.row.RowKind.TheVariants.{Single as SingleRow, Multi as MultiRow, Seek as SeekRow, Reflect as ReflectRow}
+use Rattle.bfd_demux.specs.declared.row.RowKind.TheVariants.{Single as SingleRow, Multi as MultiRow, Initiator as InitiatorRow}
+use Rattle.bfd_demux.specs.declared.row.RowKind.TheVariants.{Reflect as ReflectRow}
 use Rattle.bfd_demux.specs.declared.row.RowKind.TheVariants.{Head as HeadRow, Tail as TailRow}
 use Rattle.bfd_demux.specs.Rows.{same_addresses}
 use Rattle.bfd_session.specs.declared.event.SessionConfig.{SessionConfig}
-use Rattle.bfd_session.specs.declared.event.SessionConfig.TheVariants.{Pair, Seek, Head, Tail}
+use Rattle.bfd_session.specs.declared.event.SessionConfig.TheVariants.{Pair, Initiator, Head, Tail}
 use Rattle.bfd_session.specs.Kinds.{discr_of}
 use Rattle.bfd_session.specs.Step.{IsFit}
 
@@ -24,7 +25,7 @@ kind_of Multi iface local remote = MultiRow local remote
 -- head, the interface, the group and the source (RFC 8562 section 5.7); a head receives none
 abbrev pub row_kind : SessionConfig → RowKind
 row_kind (Pair c) = kind_of c.role c.iface c.local c.remote
-row_kind (Seek c) = SeekRow
+row_kind (Initiator c) = InitiatorRow
 row_kind (Head c) = HeadRow
 row_kind (Tail c) = TailRow c.head c.iface c.group c.source
 

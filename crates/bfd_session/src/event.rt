@@ -3,7 +3,7 @@
 use bfd_mp::{HeadConfig, TailConfig};
 use bfd_packet::{Arrival, State, Test};
 use bfd_rules::{Cmd, Config, Refusal};
-use bfd_sbfd::SeekConfig;
+use bfd_sbfd::InitiatorConfig;
 
 /// The configuration of a session, by its kind.
 #[derive(Drop)]
@@ -11,7 +11,7 @@ pub enum SessionConfig {
     /// A point-to-point session (RFC 5881, RFC 5883).
     Pair(Config),
     /// A seamless initiator (RFC 7880).
-    Seek(SeekConfig),
+    Initiator(InitiatorConfig),
     /// The head of a multipoint tree (RFC 8562).
     Head(HeadConfig),
     /// The tail of a multipoint tree (RFC 8562).
@@ -77,7 +77,7 @@ impl SessionConfig {
     {
         match self {
             SessionConfig::Pair(config) => config.discr,
-            SessionConfig::Seek(config) => config.discr,
+            SessionConfig::Initiator(config) => config.discr,
             SessionConfig::Head(config) => config.discr,
             SessionConfig::Tail(config) => config.discr,
         }
@@ -89,7 +89,7 @@ impl SessionConfig {
     {
         match self {
             SessionConfig::Pair(config) => SessionConfig::Pair(config.copy()),
-            SessionConfig::Seek(config) => SessionConfig::Seek(*config),
+            SessionConfig::Initiator(config) => SessionConfig::Initiator(*config),
             SessionConfig::Head(config) => SessionConfig::Head(*config),
             SessionConfig::Tail(config) => SessionConfig::Tail(*config),
         }

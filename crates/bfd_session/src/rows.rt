@@ -26,7 +26,7 @@ pub fn row_of(config: &SessionConfig) -> Row
                 remote: c.remote,
             },
         },
-        SessionConfig::Seek(_) => RowKind::Seek,
+        SessionConfig::Initiator(_) => RowKind::Initiator,
         SessionConfig::Head(_) => RowKind::Head,
         SessionConfig::Tail(c) => RowKind::Tail {
             head: c.head,

@@ -8,7 +8,7 @@ ghost use Rattle.bfd_session.specs.Due as due;
 ghost use Rattle.bfd_session.specs.Step.{IsFit, IsSound, CanTake, HasSize, started, next, emits, reply, tick_next, tick_emits};
 
 use crate::answering::is_for;
-use crate::{Answer, Event, SessionConfig, head, pair, seek, tail};
+use crate::{Answer, Event, SessionConfig, head, initiator, pair, tail};
 use bfd_echo::Echo;
 use bfd_mp::{Head, Tail};
 use bfd_p2p::{P2p, control_port};
@@ -22,7 +22,7 @@ use std::marker::Model;
 #[derive(Drop)]
 enum Machine {
     Pair(P2p, Option<Echo>, u32),
-    Seek(Initiator),
+    Initiator(Initiator),
     Head(Head),
     Tail(Tail),
 }
@@ -57,8 +57,8 @@ impl Session {
             SessionConfig::Pair(config) => Session {
                 machine: Machine::Pair(P2p::make(config), None, 0),
             },
-            SessionConfig::Seek(config) => Session {
-                machine: Machine::Seek(Initiator::make(config)),
+            SessionConfig::Initiator(config) => Session {
+                machine: Machine::Initiator(Initiator::make(config)),
             },
             SessionConfig::Head(config) => Session {
                 machine: Machine::Head(Head::make(config)),
@@ -75,7 +75,7 @@ impl Session {
     {
         match &self.machine {
             Machine::Pair(pair, _, _) => pair.config().discr,
-            Machine::Seek(seek) => seek.config().discr,
+            Machine::Initiator(initiator) => initiator.config().discr,
             Machine::Head(head) => head.config().discr,
             Machine::Tail(tail) => tail.config().discr,
         }
@@ -89,7 +89,7 @@ impl Session {
     {
         match &self.machine {
             Machine::Pair(pair, _, _) => pair.vars(),
-            Machine::Seek(seek) => seek.vars(),
+            Machine::Initiator(initiator) => initiator.vars(),
             Machine::Head(head) => head.vars(),
             Machine::Tail(tail) => tail.vars(),
         }
@@ -126,7 +126,7 @@ impl Session {
         };
         match &self.machine {
             Machine::Pair(pair, _, _) => is_for(control_port(pair.config().role), false, arrival),
-            Machine::Seek(_) => is_for(Port::Answer, false, arrival),
+            Machine::Initiator(_) => is_for(Port::Answer, false, arrival),
             Machine::Head(_) => false,
             Machine::Tail(_) => is_for(Port::Single, true, arrival),
         }
@@ -149,7 +149,7 @@ impl Session {
     {
         match &mut self.machine {
             Machine::Pair(pair, echo, next) => pair::steps(pair, echo, next, eff, event, outs),
-            Machine::Seek(seek) => seek::steps(seek, eff, event, outs),
+            Machine::Initiator(initiator) => initiator::steps(initiator, eff, event, outs),
             Machine::Head(head) => head::steps(head, eff, event, outs),
             Machine::Tail(tail) => tail::steps(tail, eff, event, outs),
         }
@@ -174,7 +174,7 @@ impl Session {
     {
         match &mut self.machine {
             Machine::Pair(pair, echo, next) => pair::ticks(pair, echo, next, limit, eff, outs),
-            Machine::Seek(seek) => seek::ticks(seek, limit, eff, outs),
+            Machine::Initiator(initiator) => initiator::ticks(initiator, limit, eff, outs),
             Machine::Head(head) => head::ticks(head, limit, eff, outs),
             Machine::Tail(tail) => tail::ticks(tail, limit, eff, outs),
         }
@@ -188,7 +188,7 @@ impl Session {
     {
         match &self.machine {
             Machine::Pair(pair, echo, _) => pair::due_tick(pair, echo),
-            Machine::Seek(seek) => seek::due_tick(seek),
+            Machine::Initiator(initiator) => initiator::due_tick(initiator),
             Machine::Head(head) => head::due_tick(head),
             Machine::Tail(tail) => tail::due_tick(tail),
         }

@@ -12,7 +12,7 @@ use bfd_session::{Answer, SessionConfig};
 #[derive(Clone, Copy, Debug, PartialEq, Eq)]
 pub enum Kind {
     Pair,
-    Seek,
+    Initiator,
     Head,
     Tail,
 }
@@ -62,7 +62,7 @@ fn session_kind(config: &SessionConfig) -> Kind
 {
     match config {
         SessionConfig::Pair(_) => Kind::Pair,
-        SessionConfig::Seek(_) => Kind::Seek,
+        SessionConfig::Initiator(_) => Kind::Initiator,
         SessionConfig::Head(_) => Kind::Head,
         SessionConfig::Tail(_) => Kind::Tail,
     }

@@ -9,7 +9,7 @@ ghost use Rattle.bfd_c.specs.Looks.{look_at};
 use crate::records::kept::{Kind, Record};
 use bfd_mp as tail;
 use bfd_rules::{Poll, Vars, adv_tx, deadline, detection_time};
-use bfd_sbfd as seek;
+use bfd_sbfd as initiator;
 use bfd_session::{Session, Shown};
 
 /// A look at a session.
@@ -32,7 +32,7 @@ fn advertised(session: &Session, kind: Kind) -> u32
 {
     let vars = session.vars();
     match kind {
-        Kind::Pair | Kind::Seek => adv_tx(vars),
+        Kind::Pair | Kind::Initiator => adv_tx(vars),
         Kind::Head => vars.tx,
         Kind::Tail => 0,
     }
@@ -46,14 +46,14 @@ fn waits(session: &Session, kind: Kind) -> u64
     let vars = session.vars();
     match kind {
         Kind::Pair => detection_time(vars),
-        Kind::Seek => seek::wait(vars),
+        Kind::Initiator => initiator::wait(vars),
         Kind::Head => 0,
         Kind::Tail => tail::wait(vars),
     }
 }
 
 /// When it ends.
-#[tactic(auto, using(crate::proofs::Bounds::pair_moments, crate::proofs::Bounds::seek_heard, crate::proofs::Bounds::tail_heard))]
+#[tactic(auto, using(crate::proofs::Bounds::pair_moments, crate::proofs::Bounds::initiator_heard, crate::proofs::Bounds::tail_heard))]
 fn ends(session: &Session, kind: Kind) -> Option<u64>
     requires { kind ≡ session_kind session.now.config }
     ensures { result ≡ due.detects session.now }
@@ -61,7 +61,7 @@ fn ends(session: &Session, kind: Kind) -> Option<u64>
     let vars = session.vars();
     match kind {
         Kind::Pair => deadline(vars),
-        Kind::Seek => seek::deadline(vars),
+        Kind::Initiator => initiator::deadline(vars),
         Kind::Head => None,
         Kind::Tail => tail::deadline(vars),
     }

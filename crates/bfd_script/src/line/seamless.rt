@@ -6,7 +6,7 @@ ghost use Rattle.bfd_script.specs.Ranges.{IsReflector, IsRow};
 
 use crate::fields::{LineFault, address, number};
 use bfd_rules::{LEAST_INTERVAL, MOST_INTERVAL};
-use bfd_sbfd::{Reflector, SeekConfig};
+use bfd_sbfd::{InitiatorConfig, Reflector};
 use bfd_session::SessionConfig;
 
 /// An initiator of these values.
@@ -33,7 +33,7 @@ fn initiator(
     let tx = number(tx, LEAST_INTERVAL, MOST_INTERVAL)? as u32;
     let mult = number(mult, 1, 255)? as u8;
     let seed = number(seed, 0, 4_294_967_295)? as u32;
-    Ok(SessionConfig::Seek(SeekConfig {
+    Ok(SessionConfig::Initiator(InitiatorConfig {
         discr,
         target,
         iface,
@@ -46,8 +46,8 @@ fn initiator(
 }
 
 /// The initiator of the first two values and the others.
-fn seek_with(discr: &[u8], target: &[u8], rest: &[&[u8]]) -> Result<SessionConfig, LineFault>
-    ensures value { result ≡ lines.seek_with discr.now target.now (map (λ value. value.now) rest.now) }
+fn initiator_with(discr: &[u8], target: &[u8], rest: &[&[u8]]) -> Result<SessionConfig, LineFault>
+    ensures value { result ≡ lines.initiator_with discr.now target.now (map (λ value. value.now) rest.now) }
     ensures sound { IfOk result (λ c. IsFit c × IsRow c) }
 {
     match rest {
@@ -59,12 +59,12 @@ fn seek_with(discr: &[u8], target: &[u8], rest: &[&[u8]]) -> Result<SessionConfi
 }
 
 /// The initiator of an `sbfd` line.
-pub(crate) fn read_seek(values: &[&[u8]]) -> Result<SessionConfig, LineFault>
+pub(crate) fn read_initiator(values: &[&[u8]]) -> Result<SessionConfig, LineFault>
     ensures value { result ≡ lines.sbfd_row (map (λ value. value.now) values.now) }
     ensures sound { IfOk result (λ c. IsFit c × IsRow c) }
 {
     match values {
-        [discr, target, rest @ ..] => seek_with(discr, target, rest),
+        [discr, target, rest @ ..] => initiator_with(discr, target, rest),
         _ => Err(LineFault::FieldCount),
     }
 }

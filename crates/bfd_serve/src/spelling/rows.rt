@@ -6,7 +6,7 @@ ghost use Rattle.bfd_serve.specs.Written.{reflector_fields, row_fields};
 use crate::spelling::fields::{address_text, mode_text, role_text, up_text};
 use bfd_mp::{HeadConfig, TailConfig};
 use bfd_rules::Config;
-use bfd_sbfd::{Reflector, SeekConfig};
+use bfd_sbfd::{InitiatorConfig, Reflector};
 use bfd_session::SessionConfig;
 use std::alloc::{AllocError, Global};
 use std::fmt::Write;
@@ -31,8 +31,8 @@ fn pair_text(alloc: Global, config: &Config) -> Result<String, AllocError>
 }
 
 /// The row of an initiator.
-fn seek_text(alloc: Global, config: &SeekConfig) -> Result<String, AllocError>
-    ensures { IfOk result (λ text. string_bytes text ≡ line (row_fields (SessionConfig.Seek config.now))) }
+fn initiator_text(alloc: Global, config: &InitiatorConfig) -> Result<String, AllocError>
+    ensures { IfOk result (λ text. string_bytes text ≡ line (row_fields (SessionConfig.Initiator config.now))) }
 {
     let (discr, target, iface) = (config.discr, config.target, config.iface);
     let local = address_text(alloc, config.local)?;
@@ -78,7 +78,7 @@ pub(crate) fn row_text(alloc: Global, config: &SessionConfig) -> Result<String, 
 {
     match config {
         SessionConfig::Pair(config) => pair_text(alloc, config),
-        SessionConfig::Seek(config) => seek_text(alloc, config),
+        SessionConfig::Initiator(config) => initiator_text(alloc, config),
         SessionConfig::Head(config) => head_text(alloc, config),
         SessionConfig::Tail(config) => tail_text(alloc, config),
     }

@@ -1,6 +1,6 @@
 -- The search's clause, at the discriminators of the sessions.
 use Rattle.bfd_session.proofs.Common.{rules, Ok, Err}
-use Rattle.bfd_session.proofs.Seeking.{search_is}
+use Rattle.bfd_session.proofs.Initiating.{search_is}
 use Rattle.bfd_session.proofs.table.Roster.place_of.Goals as goal
 
 pub returns-in-Ok : goal.returns-in-Ok

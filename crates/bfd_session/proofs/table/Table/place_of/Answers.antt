@@ -2,7 +2,7 @@
 use Rattle.bfd_session.proofs.Common.{◌≡◌, ℕ, List, Option, None, Some, IfSome, SessionConfig, Event, CanTake}
 use Rattle.bfd_session.specs.Reaching.{IsTaken}
 use Rattle.bfd_session.specs.Rows.{place_of}
-use Rattle.bfd_session.proofs.Seeking.{stands}
+use Rattle.bfd_session.proofs.Initiating.{stands}
 use Rattle.bfd_session.proofs.table.Table.place_of.Goals as goal
 
 taken : (cs : List SessionConfig) (discr : ℕ) (r : Option ℕ) → r ≡ place_of discr cs
