@@ -11,8 +11,8 @@ use Rattle.bfd_script.specs.Gives.{◌>>=◌}
 use Rattle.bfd_script.specs.Values.{address_of}
 
 -- an initiator of these values
-unfoldable pub initiator_of : List ℕ → List ℕ → List ℕ → List ℕ → List ℕ → List ℕ → List ℕ → List ℕ → Result SessionConfig LineFault
-initiator_of discr target iface local remote tx mult seed = do
+unfoldable pub initiator_from : List ℕ → List ℕ → List ℕ → List ℕ → List ℕ → List ℕ → List ℕ → List ℕ → Result SessionConfig LineFault
+initiator_from discr target iface local remote tx mult seed = do
   discr ← number_in 1 4294967295 discr
   target ← number_in 1 4294967295 target
   iface ← number_in 0 65535 iface
@@ -34,7 +34,7 @@ initiator_of discr target iface local remote tx mult seed = do
 
 -- the initiator of the first two values and the others
 abbrev pub initiator_with : List ℕ → List ℕ → List (List ℕ) → Result SessionConfig LineFault
-initiator_with discr target (iface ∷ local ∷ remote ∷ tx ∷ mult ∷ seed ∷ []) = initiator_of discr target iface local remote tx mult seed
+initiator_with discr target (iface ∷ local ∷ remote ∷ tx ∷ mult ∷ seed ∷ []) = initiator_from discr target iface local remote tx mult seed
 initiator_with discr target values = Err FieldCount
 
 -- the initiator of an `sbfd` line

@@ -18,7 +18,7 @@ use Rattle.bfd_session.specs.Step.{IsFit}
 use Rattle.bfd_script.specs.declared.line.entries.Entry.TheVariants as entries
 use Rattle.bfd_script.specs.declared.line.words.Place.TheVariants as places
 use Rattle.bfd_script.specs.Pairs.{active_of, echo_of, ends_of, p2p_row, role_of, timing_of}
-use Rattle.bfd_script.specs.Seamless.{initiator_of, reflecting_of, up_of}
+use Rattle.bfd_script.specs.Seamless.{initiator_from, reflecting_of, up_of}
 use Rattle.bfd_script.specs.Trees.{listener_of, sender_of}
 use Rattle.bfd_serve.proofs.Numerals.{number_again, number_field, number_short}
 use Rattle.bfd_serve.proofs.Rereading.{address_again, address_is_field, address_short}
@@ -164,9 +164,9 @@ echo_most roles.Multi n h = grind (arith, nat_tests)
 -- ---- an initiator, a head and a tail
 
 initiator_read : {c : InitiatorConfig} → IsInitiatorConfig c → IsInitiatorRow c
-    → initiator_of (decimal c.discr) (decimal c.target) (decimal c.iface) (address_field c.local) (address_field c.remote) (decimal c.tx)
+    → initiator_from (decimal c.discr) (decimal c.target) (decimal c.iface) (address_field c.local) (address_field c.remote) (decimal c.tx)
     (decimal c.mult) (decimal c.seed) ≡ Ok (Initiator c)
-unfolding initiator_of
+unfolding initiator_from
 initiator_read {c} fit row = rw (
   number_again 1 4294967295 _ fit.discr (let k = row.discr in omega arith) (let k = row.discr in omega arith),
   number_again 1 4294967295 _ fit.target (let k = row.target in omega arith) (let k = row.target in omega arith),

@@ -10,7 +10,7 @@ use bfd_sbfd::{InitiatorConfig, Reflector};
 use bfd_session::SessionConfig;
 
 /// An initiator of these values.
-#[tactic(auto, unfolding(crate::specs::Seamless::initiator_of))]
+#[tactic(auto, unfolding(crate::specs::Seamless::initiator_from))]
 fn initiator(
     discr: &[u8],
     target: &[u8],
@@ -22,7 +22,7 @@ fn initiator(
     seed: &[u8],
 ) -> Result<SessionConfig, LineFault>
     ensures value { result
-        ≡ lines.initiator_of discr.now target.now iface.now local.now remote.now tx.now mult.now seed.now }
+        ≡ lines.initiator_from discr.now target.now iface.now local.now remote.now tx.now mult.now seed.now }
     ensures sound { IfOk result (λ c. IsFit c × IsRow c) }
 {
     let discr = number(discr, 1, 4_294_967_295)? as u32;
