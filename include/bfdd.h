@@ -265,8 +265,9 @@ typedef struct {
 /* What the last event was answered; after bfdd_packets the last packet that was handled. BFDD_CLOSED, BFDD_SIZE. */
 uint32_t bfdd_answer(bfdd_handle *handle, bfdd_answered *answer);
 
-/* A look at a session. What there is none of is 0. The peer's values are those of the last control packet that the session accepted, and
- * before that those of a new session; of a head, which hears nothing, they stay so. */
+/* A look at a session. What there is none of is 0. The peer's values are those of the last control packet that the session stored, and
+ * before that those of a new session; of a head, which hears nothing, they stay so. A session stores the packets that it handles, and
+ * those that it drops by BFDD_DROP_ADMIN_DOWN, the last of its tests. */
 typedef struct {
     uint32_t size; /* sizeof(bfdd_session_state) */
     uint32_t discr;
@@ -284,7 +285,7 @@ typedef struct {
     uint8_t peer_demand;  /* and 1 where its demand mode is on */
     uint64_t detect;
     uint64_t detect_end;  /* when the Detection Time ends, if it runs */
-    uint64_t heard;       /* the moment of the last control packet that the session accepted */
+    uint64_t heard;       /* the moment of the last control packet that the session stored */
     uint64_t changed;     /* the moment of the last change of its state */
     uint64_t received;    /* packets that came to it since it was made, echo packets and those that it dropped too */
     uint64_t sent;        /* packets that it sent, echo packets too */
