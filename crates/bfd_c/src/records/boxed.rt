@@ -52,7 +52,7 @@ impl BoxedRecord {
         note_change(&mut self.record, state, moment);
     }
 
-    /// Counts what came to the session by its answer, and keeps the moment, in microseconds, where a control packet was accepted.
+    /// Counts what came to the session by its answer, and keeps the moment, in microseconds, where a control packet was stored.
     pub(crate) fn note_answer(&mut self, came: Came, answer: &Answer, moment: u64)
         ensures { self.new ≡ keeping.answered_with came answer.now moment self.old }
     {
