@@ -119,7 +119,8 @@ enum bfdd_kind {
     BFDD_TAIL = 5
 };
 
-/* One session, by the fields of its table line. What its kind doesn't use counts for nothing, but is written. */
+/* One session, by the fields of its table line. What its kind doesn't use counts for nothing, but is written. `auth` counts for each kind:
+ * one that has no authentication is refused by BFDD_RANGE if it isn't 0. */
 typedef struct {
     uint32_t size;  /* sizeof(bfdd_session) */
     uint32_t kind;  /* an enum bfdd_kind */
@@ -134,7 +135,7 @@ typedef struct {
     uint32_t mult;    /* all but a tail: Detect Mult, 1 to 255 */
     uint32_t echo;    /* point-to-point: 0, or over a single hop 10,000 to 60,000,000 */
     uint32_t seed;    /* all but a tail: the first draw of jitter, and the first sequence number; best a random one */
-    uint32_t auth;    /* point-to-point: 0 none, 1 password, 2 and 3 MD5, 4 and 5 SHA1 (RFC 5880 section 4.1) */
+    uint32_t auth;    /* point-to-point: 0 none, 1 password, 2 and 3 MD5, 4 and 5 SHA1 (RFC 5880 section 4.1); other kinds: 0 */
     uint32_t key_id;  /* 0 to 255 */
     uint32_t key_len; /* 1 to 16, or with SHA1 to 20 */
     uint8_t key[20];
@@ -268,9 +269,9 @@ typedef struct {
 uint32_t bfdd_answer(bfdd_handle *handle, bfdd_answered *answer);
 
 /* A look at a session. What there is none of is 0, and so is a moment 0. The peer's values are those of the last control packet that the
- * session stored: one that it accepted, or that it dropped in AdminDown alone. Before that they are those of a new session. An initiator
- * keeps of the peer its state, Required Min RX and diagnostic, a tail its state, Desired Min TX, Detect Mult and diagnostic, a head
- * nothing. */
+ * session stored: one that it handled, or that it dropped by BFDD_DROP_ADMIN_DOWN, the last of its tests. Before that they are those of
+ * a new session. An initiator keeps of the peer its state, Required Min RX and diagnostic, a tail its state, Desired Min TX, Detect Mult
+ * and diagnostic, a head nothing. */
 typedef struct {
     uint32_t size; /* sizeof(bfdd_session_state) */
     uint32_t discr;

@@ -106,7 +106,8 @@ const (
 	Tail      Kind = C.BFDD_TAIL
 )
 
-// A Session has the fields of bfdd_session; what its kind doesn't use counts for nothing.
+// A Session has the fields of bfdd_session; what its kind doesn't use counts for nothing, except Auth: a kind without authentication
+// refuses any but 0.
 type Session struct {
 	Kind          Kind
 	Discr, Other  uint32

@@ -129,6 +129,17 @@ static void fields(void) {
         WRONG(kind, auth, 6);
         WRONG(kind, auth, 1); /* a key of no bytes */
     }
+    /* kinds without authentication refuse any, a good key's too */
+    for (uint32_t kind = BFDD_INITIATOR; kind <= BFDD_TAIL; kind++) {
+        WRONG(kind, auth, 1);
+        WRONG(kind, auth, 6);
+        bfdd_session keyed = pair;
+        keyed.other = 900, keyed.kind = kind, keyed.auth = 5, keyed.key_len = 16;
+        CHECK(bfdd_open_session(&engine, &keyed), BFDD_RANGE);
+        CHECK(bfdd_add(&engine, &keyed), BFDD_RANGE);
+        keyed.auth = 0;
+        CHECK(bfdd_open_session(&engine, &keyed), BFDD_DONE);
+    }
     WRONG(BFDD_MULTIHOP, echo, 10000);
     RIGHT(BFDD_SINGLE_HOP, echo, 10000);
     WRONG(BFDD_INITIATOR, other, 0);

@@ -102,6 +102,45 @@ static void fields(void) {
     bfdd_close(&engine);
 }
 
+/* A disabled session drops the peer's packet by the last test, and has stored its fields before it (RFC 5880 section 6.8.6). */
+static void disabled(void) {
+    bfdd_handle engine = BFDD_HANDLE_INIT;
+    CHECK(bfdd_open_session(&engine, &whole), BFDD_DONE);
+    CHECK(bfdd_tick(&engine, 1000), BFDD_DONE);
+    receive(&engine, 1100000, 255, heard, sizeof heard);
+    CHECK(bfdd_command(&engine, 1200000, 21, BFDD_DISABLE, 0), BFDD_DONE);
+    uint8_t later[24];
+    memcpy(later, heard, sizeof heard);
+    later[0] = 0x27, later[1] = 0x40, later[2] = 9, later[7] = 12; /* diagnostic 7, Down, no D, Detect Mult 9, My Discriminator 12 */
+    receive(&engine, 1300000, 255, later, sizeof later);
+    bfdd_answered answer = BFDD_ANSWERED_INIT;
+    CHECK(bfdd_answer(&engine, &answer), BFDD_DONE);
+    CHECK(answer.kind, BFDD_DROPPED);
+    CHECK(answer.code, BFDD_DROP_ADMIN_DOWN);
+    bfdd_session_state is = look(&engine, 21);
+    CHECK(is.state, BFDD_ADMIN_DOWN);
+    CHECK(is.remote_state, BFDD_DOWN);
+    CHECK(is.remote_discr, 12);
+    CHECK(is.peer_mult, 9);
+    CHECK(is.peer_diag, 7);
+    CHECK(is.peer_demand, 0);
+    CHECK(is.heard, 1300000);
+    CHECK(is.changed, 1200000);
+    CHECK(is.received, 2);
+    CHECK(is.dropped[BFDD_DROP_ADMIN_DOWN], 1);
+    CHECK(all_dropped(&is), 1);
+    CHECK(is.ups, 1);
+    CHECK(is.downs, 0);
+    receive(&engine, 1400000, 254, heard, sizeof heard); /* an earlier test drops this one, and nothing of it is stored */
+    is = look(&engine, 21);
+    CHECK(is.remote_discr, 12);
+    CHECK(is.peer_diag, 7);
+    CHECK(is.heard, 1300000);
+    CHECK(is.received, 3);
+    CHECK(is.dropped[BFDD_DROP_TTL], 1);
+    bfdd_close(&engine);
+}
+
 /* The Detection Time has passed, and no event yet has told the session so. */
 static void settles_nothing(void) {
     bfdd_handle engine = BFDD_HANDLE_INIT;
@@ -193,6 +232,7 @@ static void counts(void) {
 
 int main(void) {
     fields();
+    disabled();
     settles_nothing();
     counts();
     return 0;

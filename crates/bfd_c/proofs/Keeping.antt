@@ -1,10 +1,12 @@
 -- Each record stays of its session's kind.
-use Rattle.std.proofs.Common.{◌≡◌, ◌∙◌, ◌∷◌, ℕ, zero, suc, List, [], Option, None, Some, length, map, refl, sym, ap}
+use Rattle.std.proofs.Common.{◌≡◌, ◌∙◌, ◌∷◌, ℕ, zero, suc, Bool, true, false, if◌then◌else◌, List, [], Option, None, Some, length, map}
+use Rattle.std.proofs.Common.{refl, sym, ap}
 use Rattle.std.specs.Prelude.{slice_get, slice_index_or, slice_set}
 use Rattle.std.specs.List.{insert, remove}
 use Rattle.std.proofs.lemmas.List.{length-map}
 use Rattle.bfd_packet.specs.declared.control.State.{State}
 use Rattle.bfd_packet.specs.declared.control.State.TheVariants.{AdminDown, Down, Init, Up}
+use Rattle.bfd_packet.specs.declared.discard.Test.{Test}
 use Rattle.bfd_rules.specs.declared.outputs.Out.{Out}
 use Rattle.bfd_rules.specs.declared.outputs.Out.TheVariants.{Changed, Sent}
 use Rattle.bfd_script.specs.declared.line.entries.Line.{Line}
@@ -23,7 +25,7 @@ use Rattle.bfd_c.specs.declared.records.kept.Kind.{Kind}
 use Rattle.bfd_c.specs.declared.records.kept.Kind.TheVariants as kinds
 use Rattle.bfd_c.specs.declared.records.kept.Record.{Record}
 use Rattle.bfd_c.specs.Records.{all_given, blank, changed_at, entered, fresh, gave, giver, session_kind, kinds_in, kinds_of, moment_at}
-use Rattle.bfd_c.specs.Records.{answered_with}
+use Rattle.bfd_c.specs.Records.{answered_with, discarded_by, is_stored_before, stored}
 
 -- what changes a record, and not its kind
 abbrev KeepsKind : (ℕ → Record → Record) → Type 0
@@ -51,6 +53,11 @@ pub gave_keeps : (out : Out) → KeepsKind (gave out)
 gave_keeps (Sent discr datagram) moment r = refl
 gave_keeps (Changed discr was state diag) moment r = entered_keeps state r
 
+stored_keeps : (before : Bool) (test : Test) (diag moment : ℕ) (r : Record)
+    → (if before then stored diag moment (discarded_by test r) else discarded_by test r).kind ≡ r.kind
+stored_keeps true test diag moment r = refl
+stored_keeps false test diag moment r = refl
+
 pub answered_keeps : (came : Came) (answer : Answer) → KeepsKind (answered_with came answer)
 answered_keeps Nothing answer moment r = refl
 answered_keeps Echoed Handled moment r = refl
@@ -60,7 +67,7 @@ answered_keeps Echoed (Refused refusal) moment r = refl
 answered_keeps Echoed (Showing shown) moment r = refl
 answered_keeps (Control diag) Handled moment r = refl
 answered_keeps (Control diag) Ticked moment r = refl
-answered_keeps (Control diag) (Dropped test) moment r = refl
+answered_keeps (Control diag) (Dropped test) moment r = stored_keeps (is_stored_before test) test diag moment r
 answered_keeps (Control diag) (Refused refusal) moment r = refl
 answered_keeps (Control diag) (Showing shown) moment r = refl
 

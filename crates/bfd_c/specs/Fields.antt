@@ -1,4 +1,5 @@
--- Which session the fields of C stand for, with the ranges of the packet file. Fields that a kind doesn't use are ignored.
+-- Which session the fields of C stand for, with the ranges of the packet file. Fields that a kind doesn't use are ignored, but `auth` has
+-- to be 0 if the kind has no authentication.
 use Rattle.std.specs.Prelude.{ℕ, ◌==◌, ◌&&◌, ◌||◌, Bool, List, nat_le, nat_lt, Option, None, Some, take, if◌then◌else◌}
 use Rattle.bfd_packet.specs.declared.arrival.Addr.{Addr}
 use Rattle.bfd_packet.specs.declared.keys.AuthType.{AuthType}
@@ -112,12 +113,22 @@ tail_by f (Some group) (Some source) =
     if has_name f && nat_le 1 f.other then Some (tail_with f group source) else None
 tail_by f group source = None
 
+-- the session of the fields, of a kind without authentication
+abbrev pub unkeyed_of : Fields → Option SessionConfig
+unkeyed_of f =
+    if f.kind == 3 then initiator_by f (addr_of f.local) (addr_of f.remote)
+    else if f.kind == 4 then head_by f (addr_of f.local) (addr_of f.remote)
+    else if f.kind == 5 then tail_by f (addr_of f.local) (addr_of f.remote)
+    else None
+
+-- the same where the fields ask for no authentication, else none
+abbrev pub unkeyed_by : Fields → Option SessionConfig
+unkeyed_by f =
+    if f.auth == 0 then unkeyed_of f else None
+
 -- the session of the fields, by the number of its kind
 abbrev pub config_of : Fields → Option SessionConfig
 config_of f =
     if f.kind == 1 then pair_by Single f (addr_of f.local) (addr_of f.remote) (keys_from_c f)
     else if f.kind == 2 then pair_by Multi f (addr_of f.local) (addr_of f.remote) (keys_from_c f)
-    else if f.kind == 3 then initiator_by f (addr_of f.local) (addr_of f.remote)
-    else if f.kind == 4 then head_by f (addr_of f.local) (addr_of f.remote)
-    else if f.kind == 5 then tail_by f (addr_of f.local) (addr_of f.remote)
-    else None
+    else unkeyed_by f

@@ -1,6 +1,6 @@
 -- What is kept of each session in addition to its variables, and what an event adds to it.
 use Rattle.std.specs.Prelude.{ℕ, ◌+◌, ◌-◌, ◌*◌, ◌^◌, max, min, Option, None, Some, List, [], ◌∷◌, map, replicate, slice_get, slice_index}
-use Rattle.std.specs.Prelude.{slice_index_or, slice_set}
+use Rattle.std.specs.Prelude.{Bool, true, false, if◌then◌else◌, slice_index_or, slice_set}
 use Rattle.std.specs.List.{insert, remove}
 use Rattle.bfd_packet.specs.declared.arrival.Arrival.{Arrival}
 use Rattle.bfd_packet.specs.declared.arrival.Port.{Port}
@@ -120,13 +120,27 @@ discarded_by test r =
           slice_set r.dropped (test_number test) (one_counted (slice_index r.dropped (test_number test)));
     }
 
--- what the session received had this answer, at this moment
+-- the fields of a control packet with this diagnostic were stored at this moment
+abbrev pub stored : ℕ → ℕ → Record → Record
+stored diag moment r = record r { heard = Some moment; peer_diag = diag }
+
+-- whether the fields of a control packet are stored before this test, which is the last one (RFC 5880 section 6.8.6)
+abbrev pub is_stored_before : Test → Bool
+is_stored_before AdminDown = true
+is_stored_before _ = false
+
+-- a control packet with this diagnostic was dropped by this test, at this moment
+abbrev pub control_dropped : Test → ℕ → ℕ → Record → Record
+control_dropped test diag moment r =
+    if is_stored_before test then stored diag moment (discarded_by test r) else discarded_by test r
+
+-- what came to the session had this answer, at this moment
 abbrev pub answered_with : Came → Answer → ℕ → Record → Record
 answered_with Nothing answer moment r = r
 answered_with Echoed (Dropped test) moment r = discarded_by test r
 answered_with Echoed _ moment r = record r { received = one_counted r.received }
-answered_with (Control diag) (Dropped test) moment r = discarded_by test r
-answered_with (Control diag) _ moment r = record r { received = one_counted r.received; heard = Some moment; peer_diag = diag }
+answered_with (Control diag) (Dropped test) moment r = control_dropped test diag moment r
+answered_with (Control diag) _ moment r = stored diag moment (record r { received = one_counted r.received })
 
 -- the moment of an event of a session after it: no earlier than the last tick and the session's last own event
 abbrev pub moment_of : ℕ → Option Running → ℕ

@@ -16,8 +16,8 @@ use bfd_rules::{Config, Role, is_interval};
 use bfd_sbfd::InitiatorConfig;
 use bfd_session::SessionConfig;
 
-/// A session by its fields: those of a table line, with the same ranges. What the kind doesn't use counts for nothing. Intervals
-/// are in microseconds.
+/// A session by its fields: those of a table line, with the same ranges. What the kind doesn't use counts for nothing, except `auth`.
+/// Intervals are in microseconds.
 #[repr(C)]
 #[derive(Clone, Copy, Drop)]
 pub struct Fields {
@@ -45,7 +45,7 @@ pub struct Fields {
     /// 0, or over a single hop 10,000 to 60,000,000.
     pub echo: u32,
     pub seed: u32,
-    /// 0 for no authentication, or the Auth Type 1 to 5 of the one key.
+    /// 0 for no authentication, or the Auth Type 1 to 5 of the one key. Kinds 3 to 5 have no authentication: 0.
     pub auth: u32,
     /// 0 to 255.
     pub key_id: u32,
@@ -297,7 +297,32 @@ fn tail(f: &Fields) -> Option<SessionConfig>
     Some(tail_with(*f, group, source))
 }
 
-/// The session of the fields, or None where a value that its kind uses is outside its range.
+/// The session of the fields, of a kind without authentication.
+fn unkeyed_of(f: &Fields) -> Option<SessionConfig>
+    ensures value { result ≡ fields.unkeyed_of f.now }
+    ensures sound { IfSome result IsInRanges }
+{
+    match f.kind {
+        3 => initiator(f),
+        4 => head(f),
+        5 => tail(f),
+        _ => None,
+    }
+}
+
+/// The same, or None where the fields ask for authentication.
+fn unkeyed(f: &Fields) -> Option<SessionConfig>
+    ensures value { result ≡ fields.unkeyed_by f.now }
+    ensures sound { IfSome result IsInRanges }
+{
+    if f.auth != 0 {
+        return None;
+    }
+    unkeyed_of(f)
+}
+
+/// The session of the fields, or None where a value that its kind uses is outside its range, or it asks for authentication that its
+/// kind doesn't have.
 pub(crate) fn config(f: &Fields) -> Option<SessionConfig>
     ensures value { result ≡ config_of f.now }
     ensures sound { IfSome result IsInRanges }
@@ -305,9 +330,6 @@ pub(crate) fn config(f: &Fields) -> Option<SessionConfig>
     match f.kind {
         1 => pair(Role::Single, f),
         2 => pair(Role::Multi, f),
-        3 => initiator(f),
-        4 => head(f),
-        5 => tail(f),
-        _ => None,
+        _ => unkeyed(f),
     }
 }

@@ -34,7 +34,7 @@ pub struct SessionState {
     pub peer_diag: u8,
     pub peer_demand: u8,
     pub detect: u64,
-    /// When the Detection Time ends; the moments of the last control packet that was accepted, and of the last change of state.
+    /// When the Detection Time ends; the moments of the last control packet that was stored, and of the last change of state.
     pub detect_end: u64,
     pub heard: u64,
     pub changed: u64,

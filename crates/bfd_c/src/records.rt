@@ -8,6 +8,7 @@
 //! The world is the instance's, event by event. The records are what `specs/Records.antt` says, over the answer and the outputs of each
 //! event, and a look returns what `specs/Looks.antt` says.
 
+mod boxed;
 mod kept;
 mod looking;
 mod noting;

@@ -158,7 +158,8 @@ pub struct Auth {
     pub key: Vec<u8>,
 }
 
-/// A session, by the fields of `bfdd_session`; what its kind doesn't use counts for nothing.
+/// A session, by the fields of `bfdd_session`; what its kind doesn't use counts for nothing, except `auth`: a kind without authentication
+/// refuses it.
 #[derive(Clone, Debug)]
 pub struct Session {
     pub kind: Kind,

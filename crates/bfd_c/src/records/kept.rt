@@ -32,7 +32,7 @@ pub enum Came {
 #[derive(Clone, Copy)]
 pub struct Record {
     pub kind: Kind,
-    /// The diagnostic in the last control packet that it accepted.
+    /// The diagnostic in the last control packet that it stored.
     pub peer_diag: u8,
     /// Packets that came to the session, those that it dropped too.
     pub received: u32,
@@ -43,7 +43,7 @@ pub struct Record {
     /// Changes of its state to Up, and to Down.
     pub ups: u32,
     pub downs: u32,
-    /// The moment of the last control packet that it accepted.
+    /// The moment of the last control packet that it stored.
     pub heard: Option<u64>,
     /// The moment of the last change of its state.
     pub changed: Option<u64>,
@@ -150,18 +150,48 @@ fn note_dropped(kept: &mut Record, test: Test)
     kept.dropped[place] = one_counted(kept.dropped[place]);
 }
 
+/// The session stored the fields of a control packet with this diagnostic.
+fn note_stored(kept: &mut Record, diag: u8, moment: u64)
+    ensures { kept.new ≡ keeping.stored diag moment kept.old }
+{
+    kept.heard = Some(moment);
+    kept.peer_diag = diag;
+}
+
+/// Whether the fields of a control packet are stored before this test, which is the last one (RFC 5880 section 6.8.6).
+fn is_stored_before(test: Test) -> bool
+    ensures { result ≡ keeping.is_stored_before test }
+{
+    match test {
+        Test::AdminDown => true,
+        _ => false,
+    }
+}
+
+/// The session dropped a control packet with this diagnostic.
+fn note_control_dropped(kept: &mut Record, test: Test, diag: u8, moment: u64)
+    ensures { kept.new ≡ keeping.control_dropped test diag moment kept.old }
+{
+    note_dropped(kept, test);
+    if is_stored_before(test) {
+        note_stored(kept, diag, moment);
+    }
+}
+
 /// What came to the session had this answer.
 pub(crate) fn note_answer(kept: &mut Record, came: Came, answer: &Answer, moment: u64)
     ensures { kept.new ≡ keeping.answered_with came answer.now moment kept.old }
 {
     match (came, answer) {
         (Came::Nothing, _) => {}
-        (_, Answer::Dropped(test)) => note_dropped(kept, *test),
+        (Came::Echoed, Answer::Dropped(test)) => note_dropped(kept, *test),
         (Came::Echoed, _) => kept.received = one_counted(kept.received),
+        (Came::Control(diag), Answer::Dropped(test)) => {
+            note_control_dropped(kept, *test, diag, moment)
+        }
         (Came::Control(diag), _) => {
             kept.received = one_counted(kept.received);
-            kept.heard = Some(moment);
-            kept.peer_diag = diag;
+            note_stored(kept, diag, moment);
         }
     }
 }

@@ -4,7 +4,8 @@ ghost use Rattle.bfd_session.specs.Kinds.{configs_of};
 ghost use Rattle.bfd_session.specs.Rows.{Ascends, place_of as place_in};
 ghost use Rattle.bfd_c.specs.Records as keeping;
 
-use crate::records::kept::{Came, Record, note_answer, note_change, note_sent};
+use crate::records::boxed::BoxedRecord;
+use crate::records::kept::Came;
 use bfd_instance::Instance;
 use bfd_rules::Out;
 use bfd_session::Answer;
@@ -28,7 +29,7 @@ pub(crate) fn note_came<W: Timers>(
     place: Option<u32>,
     came: Came,
     answer: &Answer,
-    records: &mut Vec<Record>,
+    records: &mut Vec<BoxedRecord>,
 )
     requires { IfSome place (λ place. place < length records.old.items) }
     ensures { records.new.items ≡ keeping.changed_at place (keeping.answered_with came answer.now) instance.now.world records.old.items }
@@ -37,7 +38,7 @@ pub(crate) fn note_came<W: Timers>(
         return;
     };
     let moment = moment_at(instance, place);
-    note_answer(&mut records[place as usize], came, answer, moment);
+    records[place as usize].note_answer(came, answer, moment);
 }
 
 /// Whose an output is.
@@ -54,7 +55,7 @@ fn note_given<W: Timers>(
     instance: &Instance<W>,
     place: Option<u32>,
     out: &Out,
-    records: &mut Vec<Record>,
+    records: &mut Vec<BoxedRecord>,
 )
     requires { IfSome place (λ place. place < length records.old.items) }
     ensures { records.new.items ≡ keeping.changed_at place (keeping.gave out.now) instance.now.world records.old.items }
@@ -63,10 +64,10 @@ fn note_given<W: Timers>(
         return;
     };
     match out {
-        Out::Sent { .. } => note_sent(&mut records[place as usize]),
+        Out::Sent { .. } => records[place as usize].note_sent(),
         Out::Changed { new, .. } => {
             let moment = moment_at(instance, place);
-            note_change(&mut records[place as usize], *new, moment);
+            records[place as usize].note_change(*new, moment);
         }
     }
 }
@@ -101,7 +102,7 @@ fn place_near<W: Timers>(instance: &Instance<W>, near: u32, discr: u32) -> Optio
 }
 
 /// Each output of the last event is recorded for the session that it names. The first is looked for at the place `near`.
-pub(crate) fn note_all<W: Timers>(instance: &Instance<W>, near: u32, records: &mut Vec<Record>)
+pub(crate) fn note_all<W: Timers>(instance: &Instance<W>, near: u32, records: &mut Vec<BoxedRecord>)
     requires { length records.old.items ≡ length instance.now.world.sessions }
     ensures { records.new.items ≡ keeping.all_given instance.now.world records.old.items instance.now.items }
 {

@@ -1,6 +1,7 @@
 //! An instance that keeps a record of each session.
-ghost use Rattle.std.specs.Prelude.{◌≡◌, ◌⊎◌, ◌<◌, None, Some, IfOk, MatchResult, OnErr, OnOk, false, length, map};
-ghost use Rattle.std.specs.List.{remove};
+ghost use Rattle.std.specs.Prelude.{◌≡◌, ◌⊎◌, ◌<◌, ◌≤◌, None, Some, IfOk, MatchResult, OnErr, OnOk, false, length, map};
+ghost use Rattle.std.specs.Prelude.{if◌then◌else◌, is_ok};
+ghost use Rattle.std.specs.List.{insert, remove};
 ghost use Rattle.bfd_lanes.specs.Places.{least};
 ghost use Rattle.bfd_session.specs.Due.{due as due_tick};
 ghost use Rattle.bfd_session.specs.Step.{IsFit};
@@ -11,6 +12,7 @@ ghost use Rattle.bfd_c.specs.Looks.{look_in, look_of};
 ghost use Rattle.bfd_script.specs.declared.line.entries.Line.TheVariants as lines;
 ghost use Rattle.bfd_c.specs.Records as keeping;
 
+use crate::records::boxed::BoxedRecord;
 use crate::records::kept::{Record, came_on, came_with, fresh};
 use crate::records::looking::{Look, seen};
 use crate::records::noting::{note_all, note_came};
@@ -30,7 +32,7 @@ use std::marker::Model;
 #[derive(Drop)]
 pub struct Recorded<W: Timers> {
     instance: Instance<W>,
-    records: Vec<Record>,
+    records: Vec<BoxedRecord>,
 }
 
 impl<W: Timers> Model for Recorded<W> {
@@ -45,14 +47,34 @@ impl<W: Timers> Model for Recorded<W> {
 }
 
 /// The records of new sessions.
-fn all_fresh(alloc: Global, configs: &Vec<SessionConfig>) -> Result<Vec<Record>, AllocError>
-    ensures { IfOk result (λ list. list.items ≡ map keeping.fresh configs.now.items) }
+fn all_fresh(alloc: Global, configs: &[SessionConfig]) -> Result<Vec<BoxedRecord>, AllocError>
+    ensures { IfOk result (λ list. list.items ≡ map keeping.fresh configs.now) }
 {
-    configs.iter().map(|config| fresh(config)).collect(alloc)
+    let mut records = Vec::with_capacity(alloc, configs.len())?;
+    for config in configs {
+        let boxed = BoxedRecord::make(alloc, fresh(config))?;
+        records.push(boxed)?;
+    }
+    Ok(records)
+}
+
+/// Puts a record in at a place. Fails only when out of memory; then the records stay as they were.
+fn put_in(
+    alloc: Global,
+    records: &mut Vec<BoxedRecord>,
+    place: u32,
+    kept: Record,
+) -> Result<(), AllocError>
+    requires { place ≤ length records.old.items }
+    ensures items { records.new.items ≡ (if is_ok result then insert records.old.items place kept else records.old.items) }
+{
+    let boxed = BoxedRecord::make(alloc, kept)?;
+    records.insert(place as usize, boxed)?;
+    Ok(())
 }
 
 /// The record at a place leaves.
-fn take_out(records: &mut Vec<Record>, place: u32)
+fn take_out(records: &mut Vec<BoxedRecord>, place: u32)
     requires { place < length records.old.items }
     ensures { records.new.items ≡ remove records.old.items place }
 {
@@ -141,7 +163,7 @@ impl<W: Timers> Recorded<W> {
         let kept = fresh(&config);
         let discr = config.discr();
         let place = self.instance.add(alloc, config)?;
-        match self.records.insert(place as usize, kept) {
+        match put_in(alloc, &mut self.records, place, kept) {
             Ok(()) => Ok(()),
             Err(_) => {
                 self.instance.remove(discr);
@@ -198,7 +220,7 @@ impl<W: Timers> Recorded<W> {
     {
         let seat = self.instance.sessions().get(place as usize)?;
         let kept = self.records.get(place as usize)?;
-        Some(seen(seat.session(), kept))
+        Some(seen(seat.session(), kept.record()))
     }
 
     /// A look at the session of this discriminator, if there is one. It settles nothing, and what the last event gave stays.

@@ -36,7 +36,7 @@ use Rattle.bfd_shard.proofs.sessions.Sessions.TheSendSync as sessions
 use Rattle.bfd_session.proofs.event.Answer.TheSendSync as answer
 use Rattle.bfd_instance.specs.contracts.instance.Instance as World
 use Rattle.bfd_instance.specs.contracts.instance.Instance.TheInside as world
-use Rattle.bfd_c.proofs.records.kept.Record.TheSendSync as kept
+use Rattle.bfd_c.proofs.records.boxed.BoxedRecord.TheSendSync as boxed
 use Rattle.bfd_c.specs.contracts.records.recorded.Recorded
 use Rattle.bfd_c.specs.contracts.records.recorded.Recorded.TheInside as recorded
 use Rattle.bfd_c.specs.Owning.{kept_owns}
@@ -72,7 +72,7 @@ world_send = view_send _ _ _ _ _ (declared_send (world.the_type ByCount.the_row 
 ))
 
 recorded_send : IsSend (Recorded.the_row ByCount.the_row ghosts)
-recorded_send = view_send _ _ _ _ _ (declared_send (recorded.the_type ByCount.the_row ghosts) (world_send, (Vec-send _ kept.the_send, tt)))
+recorded_send = view_send _ _ _ _ _ (declared_send (recorded.the_type ByCount.the_row ghosts) (world_send, (Vec-send _ boxed.the_send, tt)))
 
 held : IsSend Held.the_row
 held = view_send _ _ _ _ _ (declared_send inside.the_type

@@ -1,5 +1,5 @@
 -- With a session its record comes, or neither.
-use Rattle.std.proofs.Common.{◌≡◌, refl}
+use Rattle.std.proofs.Common.{refl}
 use Rattle.bfd_session.specs.Changes.{place_for}
 use Rattle.bfd_session.specs.Kinds.{configs_of, discr_of}
 use Rattle.bfd_c.proofs.Keeping.{one_in}

@@ -18,7 +18,8 @@ seen_there w rs place s r l at_s at_r is = rw (at_s, at_r, is) refl
 pub seen-requires : goal.seen-requires
 seen-requires g c =
     let s = c.in_ok-seat.ensures.lookup in let r = c.in_ok-kept.ensures.lookup in
-    rw c.session.ensures (kind_there c.deref.result.now c.sessions.result.now c.args.place c.in_ok-kept.kept.now c.in_ok-seat.seat.now
+    rw (c.session.ensures, c.record.ensures)
+    (kind_there c.deref.result.now c.sessions.result.now c.args.place c.in_ok-kept.kept.now c.in_ok-seat.seat.now
     (rw (c.deref.ensures.value, c.sessions.ensures.value) c.self.invariant)
     (there c.deref.result.now c.args.place c.in_ok-kept.kept.now r.0 r.1)
     (there c.sessions.result.now c.args.place c.in_ok-seat.seat.now s.0 s.1))
@@ -31,4 +32,4 @@ returns g c =
     c.seen.result
     (rw (← c.sessions.ensures.value) (there c.sessions.result.now c.args.place c.in_ok-seat.seat.now s.0 s.1))
     (rw (← c.deref.ensures.value) (there c.deref.result.now c.args.place c.in_ok-kept.kept.now r.0 r.1))
-    (rw c.session.ensures at c.seen.ensures))
+    (rw (c.session.ensures, c.record.ensures) at c.seen.ensures))
