@@ -1,5 +1,5 @@
 -- Many packets handled by one call, and many outputs read by one call: each as by a call of its own, in their order.
-use Rattle.std.specs.Prelude.{ℕ, zero, suc, ◌+◌, ◌==◌, ◌&&◌, ◌||◌, Bool, List, [], ◌∷◌, length, drop, min, nat_lt, take, Option, None, Some}
+use Rattle.std.specs.Prelude.{ℕ, zero, suc, ◌≤◌, ◌+◌, ◌==◌, ◌&&◌, ◌||◌, Bool, List, [], ◌∷◌, length, drop, min, nat_lt, take, Option, None, Some}
 use Rattle.std.specs.Prelude.{if◌then◌else◌}
 use Rattle.std.specs.List.{list_all}
 use Rattle.bfd_rules.specs.declared.outputs.Out.{Out}
@@ -15,6 +15,10 @@ use Rattle.bfd_c.specs.Telling.{answer_for_c, output_of}
 -- the event that one of many packets asks for
 abbrev pub line_of_arrived : Arrived → Option Line
 line_of_arrived a = packet_line a.packet a.payload.now
+
+-- its payload is at most 52 bytes, which need no memory
+abbrev pub IsShort : Arrived → Type 0
+IsShort a = length a.payload.now ≤ 52
 
 -- the result of many packets: the engine, the places with the answers of those that were handled, how many these are, and the code
 pub record Handed : Type 0 where

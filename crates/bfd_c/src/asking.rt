@@ -1,5 +1,5 @@
 //! The calls that are events: a packet, a tick, a command and a question.
-ghost use Rattle.std.specs.Prelude.{◌≡◌, ◌≢◌, None, Some, Ok, Err, IfOk, OnErr};
+ghost use Rattle.std.specs.Prelude.{◌≡◌, ◌≢◌, ◌≤◌, None, Some, Ok, Err, IfOk, OnErr, length};
 ghost use Rattle.bfd_c.specs.Engines.{asked, called, held_by};
 ghost use Rattle.bfd_c.specs.Lines.{cmd_of, command_line, packet_asked, packet_line, show_line, tick_line};
 ghost use Rattle.bfd_c.specs.Sizes.{packet_size};
@@ -91,6 +91,7 @@ pub(crate) fn hear(alloc: Global, engine: &mut Engine, values: &Packet, payload:
     ensures done { result ≢ 2 → (engine.new, result) ≡ asked (packet_line values.now payload.now) engine.old }
     ensures memory { result ≡ 2 → engine.new ≡ engine.old }
     ensures fits { result ≡ 2 → packet_line values.now payload.now ≢ None }
+    ensures short { length payload.now ≤ 52 → result ≢ 2 }
 {
     let Some(moment) = Moment::new(values.moment) else {
         return RANGE;
@@ -109,7 +110,7 @@ pub(crate) fn hear(alloc: Global, engine: &mut Engine, values: &Packet, payload:
 ///
 /// 1 comes if and only if the handle is closed; 11 iff it's open and the struct's size isn't known; 3 iff neither comes
 /// and the moment is 2^60 or above, the port isn't 1 to 5, the interface is above 65,535, or a family isn't 4 or 6; 2 only when out of
-/// memory for the payload, where no other comes. Then nothing has changed.
+/// memory for the payload, where no other comes, and never with one of up to 52 bytes. Then nothing has changed.
 #[unsafe(no_mangle)]
 pub extern "C" fn bfdd_receive(
     alloc: Global,
@@ -122,6 +123,7 @@ pub extern "C" fn bfdd_receive(
     ensures kept { result ≡ 2 → handle.new.kept.held ≡ handle.old.kept.held }
     ensures memory { result ≡ 2 → (handle.old.kept.held ≢ None) × (packet.now.size ≡ packet_size)
         × (packet_line packet.now payload.now ≢ None) }
+    ensures short { length payload.now ≤ 52 → result ≢ 2 }
 {
     match handle.take(alloc) {
         Some(engine) => {

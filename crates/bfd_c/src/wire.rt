@@ -1,5 +1,5 @@
 //! Addresses and packets, as C gives and reads them.
-ghost use Rattle.std.specs.Prelude.{◌≡◌, ◌≢◌, None, IfOk, IfSome, OnErr};
+ghost use Rattle.std.specs.Prelude.{◌≡◌, ◌≢◌, ◌≤◌, None, IfOk, IfSome, IsOk, OnErr, length};
 ghost use Rattle.bfd_script.specs.Values.{IsAddress};
 ghost use Rattle.bfd_c.specs.Wire.{addr_of, address_for_c, arrival_from_c, port_by_number};
 
@@ -78,7 +78,7 @@ fn port(number: u32) -> Option<Port>
 }
 
 /// The packet with its payload, of which the first 256 bytes are kept, where its port, its interface and its addresses are in their ranges.
-/// It fails only when out of memory, and only where they are.
+/// It fails only when out of memory, only where they are, and never with a payload of up to 52 bytes.
 pub(crate) fn arrival(
     alloc: Global,
     packet: &Packet,
@@ -86,6 +86,7 @@ pub(crate) fn arrival(
 ) -> Result<Option<Arrival>, AllocError>
     ensures value { IfOk result (λ arrival. arrival ≡ arrival_from_c packet.now payload.now) }
     ensures fits { OnErr result (arrival_from_c packet.now payload.now ≢ None) }
+    ensures short { length payload.now ≤ 52 → IsOk result }
 {
     if packet.iface > 65_535 {
         return Ok(None);

@@ -5,3 +5,5 @@ pub mod SameConfigs
 pub mod Stages
 pub mod Telling
 pub mod Joining
+pub mod Judged
+pub mod Resting

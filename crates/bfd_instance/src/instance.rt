@@ -1,12 +1,16 @@
 //! A world of sessions on its way.
-ghost use Rattle.std.specs.Prelude.{◌≡◌, ◌⊎◌, ◌<◌, ◌≤◌, ◌+◌, ◌*◌, ◌++◌, ◌∷◌, None, Some, IfOk, IfSome, MatchResult, OnErr, OnOk, drop, false, length, map, take};
-ghost use Rattle.bfd_lanes.specs.Places.{least};
+ghost use Rattle.std.specs.Prelude.{◌≡◌, ◌⊎◌, ◌<◌, ◌≤◌, ◌+◌, ◌*◌, ◌++◌, ◌∷◌, None, Some, IfOk, IfSome, MatchResult, OnErr, OnOk, drop, false, length, map, max, take, []};
+ghost use Rattle.bfd_num.specs.Due.{has_come};
+ghost use Rattle.bfd_lanes.specs.Places.{least, places};
 ghost use Rattle.bfd_session.specs.Due.{due as due_tick};
 ghost use Rattle.bfd_session.specs.Changes.{place_for};
 ghost use Rattle.bfd_session.specs.Kinds.{configs_of, discr_of};
 ghost use Rattle.bfd_session.specs.Rows.{Ascends, place_of as place_in};
 ghost use Rattle.bfd_session.specs.Step.{IsFit, started};
 ghost use Rattle.bfd_session.specs.Tables.{members};
+ghost use Rattle.bfd_shard.specs.Expired.{forgotten, has_expired};
+ghost use Rattle.bfd_shard.specs.Shard.{NoneDue};
+ghost use Rattle.bfd_instance.specs.Judged.{arrival_answer};
 ghost use Rattle.bfd_instance.specs.Stage.{IsTable};
 ghost use Rattle.bfd_instance.specs.World.{turn_giving};
 ghost use Rattle.bfd_instance.specs.World as world;
@@ -129,9 +133,11 @@ impl<W: Timers> Instance<W> {
         happen(&self.table, &mut self.sessions, line, outs)
     }
 
-    /// A packet that came in: `happen_placing` of its line.
+    /// A packet that came in: `happen_placing` of its line. It is discarded by the first test that it fails, and handled where it fails
+    /// none (RFC 5880 section 6.8.6).
     pub fn hear(&mut self, moment: Moment, arrival: Arrival) -> (Answer, Option<u32>)
         ensures turn { turn_giving self.new.world self.new.items result.0 ≡ world.happens (lines.Rx moment arrival) self.old.world }
+        ensures judged { result.0 ≡ arrival_answer moment arrival self.old.world }
         ensures reached { result.1 ≡ world.place_reached (lines.Rx moment arrival) self.old.world }
         ensures within { IfSome result.1 (λ place. place < length self.old.world.sessions) }
     {
@@ -145,9 +151,16 @@ impl<W: Timers> Instance<W> {
         )
     }
 
-    /// A tick: `happen` of its line.
+    /// A tick: `happen` of its line. One below the last tick counts as the last. Exactly the sessions whose Detection Time has expired by
+    /// it forget that they received a packet (RFC 5880 section 6.8.4), and nothing that is due is left. Where nothing is due by it, no
+    /// session changes and nothing is emitted.
     pub fn tick(&mut self, t: Tick) -> Answer
-        ensures { turn_giving self.new.world self.new.items result ≡ world.happens (lines.Tick t) self.old.world }
+        ensures turn { turn_giving self.new.world self.new.items result ≡ world.happens (lines.Tick t) self.old.world }
+        ensures expires { forgotten self.old.world.sessions self.new.world.sessions
+            ≡ places (has_expired (max self.old.world.last t)) 0 self.old.world.sessions }
+        ensures none_due { NoneDue (max self.old.world.last t) self.new.world.sessions }
+        ensures rests { has_come (max self.old.world.last t) (least (map due_tick self.old.world.sessions)) ≡ false
+            → (self.new.world.sessions ≡ self.old.world.sessions) × (self.new.items ≡ []) }
     {
         self.outs.clear();
         pass::<W, Brand>(&mut self.sessions, t, &mut self.outs, Blank::new(1))

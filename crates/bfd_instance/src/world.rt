@@ -1,5 +1,10 @@
 //! The events of a world.
-ghost use Rattle.std.specs.Prelude.{ℕ, ◌≡◌, ◌<◌, ◌≤◌, ◌+◌, ◌*◌, IfOk, IfSome, MatchResult, Some, List, [], length, slice_get};
+ghost use Rattle.std.specs.Prelude.{ℕ, ◌≡◌, ◌<◌, ◌≤◌, ◌+◌, ◌*◌, IfOk, IfSome, MatchResult, Some, List, [], false, length, map, max, slice_get};
+ghost use Rattle.bfd_num.specs.Due.{has_come};
+ghost use Rattle.bfd_lanes.specs.Places.{least, places};
+ghost use Rattle.bfd_session.specs.Due.{due as due_tick};
+ghost use Rattle.bfd_shard.specs.Expired.{forgotten, has_expired};
+ghost use Rattle.bfd_shard.specs.Shard.{NoneDue};
 ghost use Rattle.bfd_session.specs.declared.event.SessionConfig.{SessionConfig};
 ghost use Rattle.bfd_session.specs.Arrivals.{Discarded, comes_to, coming_to};
 ghost use Rattle.bfd_session.specs.Reaching.{IsNamed, IsTaken, Reaches};
@@ -38,8 +43,15 @@ pub fn pass<W: Timers, L: Ledger>(
     requires blank { IsBlankOf L.name L.parts blank.name blank.parts }
     ensures turn { (pool : List Reflector) → turned sessions.new.sessions pool sessions.new.last outs.new.items result
         ≡ world.ticks t (world.world_of sessions.old.sessions pool sessions.old.last) }
+    ensures expires { forgotten sessions.old.sessions sessions.new.sessions
+        ≡ places (has_expired (max sessions.old.last t)) 0 sessions.old.sessions }
+    ensures none_due { NoneDue (max sessions.old.last t) sessions.new.sessions }
+    ensures rests { has_come (max sessions.old.last t) (least (map due_tick sessions.old.sessions)) ≡ false
+        → (sessions.new.sessions ≡ sessions.old.sessions) × (outs.new.items ≡ []) }
     ensures room { outs.new.room ≡ outs.old.room }
 {
+    // proof: the read says that each session is sound
+    let _ = sessions.sessions();
     sessions.apply(&ShardEvent::Tick(t), outs, &mut Steps::<L>::new(blank))
 }
 

@@ -1,6 +1,7 @@
--- The packet leaves a stage.
+-- The packet leaves a stage, and is answered by the first test that it fails.
 use Rattle.bfd_instance.proofs.Common.{◌∙◌, ap}
 use Rattle.bfd_script.specs.declared.line.entries.Line.TheVariants.{Rx}
+use Rattle.bfd_instance.proofs.Judged.{judged}
 use Rattle.bfd_instance.proofs.Stages.{stage_kept}
 use Rattle.bfd_instance.proofs.instance.Instance.hear.Goals as goal
 
@@ -15,3 +16,6 @@ returns-clause-turn g c = rw (← c.self.view_is, ← c.self.invariant.configs) 
 
 pub returns-clause-reached : goal.returns-clause-reached
 returns-clause-reached g c = rw (← c.self.view_is, ← c.self.invariant.configs) c.arrive.ensures.reached
+
+pub returns-clause-judged : goal.returns-clause-judged
+returns-clause-judged g c = judged c.args.moment c.args.arrival _ _ _ _ (returns-clause-turn g c)
