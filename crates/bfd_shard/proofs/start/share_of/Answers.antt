@@ -22,7 +22,8 @@ loop-at-preserved c = let n = c.args.shards in let at = c.loop-at.at in let insi
       c.index-configs-at.result c.in_ok-seat.seat (omega (arith, c.requires.within.0)) inside refl c.index-configs-at.is
       (c.in_ok-seat.ensures.session ∙ ap started c.copy.ensures) c.in_ok-push.ensures.items c.loop-at.invariant.whole;
   few = omega (arith, inside);
-  sound = sound_more c.loop-at.sessions.items _ c.in_ok-seat.seat c.loop-at.invariant.sound c.in_ok-seat.ensures.sound c.in_ok-push.ensures.items;
+  sound = sound_more c.loop-at.sessions.items _ c.in_ok-seat.seat c.loop-at.invariant.sound c.in_ok-seat.ensures.sound
+      c.in_ok-push.ensures.items;
 }
 
 pub returns-clause-sessions : goal.returns-clause-sessions
