@@ -1,5 +1,5 @@
 -- Between events the moment of the last packet, and that of a running poll, are below the bound of moments.
-use Rattle.std.proofs.Common.{◌≡◌, ◌<◌, Option, None, Some, List}
+use Rattle.std.proofs.Common.{◌≡◌, ◌<◌}
 use Rattle.std.specs.Prelude.{IfSome}
 use Rattle.bfd_num.specs.Numbers.{moment_bound}
 use Rattle.bfd_rules.specs.Quantities.{poll_started}

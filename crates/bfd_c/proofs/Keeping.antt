@@ -21,7 +21,6 @@ use Rattle.bfd_instance.specs.World.{Turn, World, happens, turn_giving}
 use Rattle.bfd_instance.proofs.SameConfigs.{happens_keeps}
 use Rattle.bfd_c.specs.declared.records.kept.Came.{Came}
 use Rattle.bfd_c.specs.declared.records.kept.Came.TheVariants.{Nothing, Echoed, Control}
-use Rattle.bfd_c.specs.declared.records.kept.Kind.{Kind}
 use Rattle.bfd_c.specs.declared.records.kept.Kind.TheVariants as kinds
 use Rattle.bfd_c.specs.declared.records.kept.Record.{Record}
 use Rattle.bfd_c.specs.Records.{all_given, blank, changed_at, entered, fresh, gave, giver, session_kind, kinds_in, kinds_of, moment_at}

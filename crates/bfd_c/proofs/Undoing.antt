@@ -1,12 +1,11 @@
 -- A world to which a session was added is, once that is removed, as it was.
-use Rattle.std.proofs.Common.{◌≡◌, ◌≤◌, ◌+◌, ◌∙◌, ◌∷◌, ℕ, zero, suc, Bool, true, false, List, [], Option, None, Some, length, map, refl}
-use Rattle.std.proofs.Common.{sym, ap, arith}
+use Rattle.std.proofs.Common.{◌≡◌, ◌≤◌, ◌+◌, ◌∙◌, ◌∷◌, ℕ, zero, suc, List, [], None, Some, length, map, refl}
+use Rattle.std.proofs.Common.{ap, arith}
 use Rattle.std.specs.Prelude.{◌==◌, nat_lt}
-use Rattle.std.specs.List.{AllByRecursion, insert, position_from}
+use Rattle.std.specs.List.{insert, position_from}
 use Rattle.std.proofs.lemmas.Iterator.Adapters.{position_from-zero}
 use Rattle.std.proofs.lemmas.Bool.{eq-eqb}
 use Rattle.std.proofs.lemmas.List.{length-map}
-use Rattle.bfd_demux.specs.Rows.{add_fault}
 use Rattle.bfd_demux.proofs.Indexing.{fits}
 use Rattle.bfd_demux.proofs.Lookups.{length-filter-le}
 use Rattle.bfd_session.specs.declared.event.SessionConfig.{SessionConfig}

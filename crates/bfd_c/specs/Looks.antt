@@ -1,7 +1,5 @@
 -- A look at a session: it settles nothing and changes nothing.
 use Rattle.std.specs.Prelude.{ℕ, Option, None, Some, List, slice_get}
-use Rattle.bfd_rules.specs.declared.variables.Vars.{Vars}
-use Rattle.bfd_session.specs.declared.event.Shown.{Shown}
 use Rattle.bfd_session.specs.Due.{detects}
 use Rattle.bfd_session.specs.Kinds.{Running, configs_of}
 use Rattle.bfd_session.specs.Rows.{place_of}
