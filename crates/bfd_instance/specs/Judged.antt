@@ -21,7 +21,8 @@ use Rattle.bfd_instance.specs.World.{World}
 -- awaited (section 6.8.8). No other event arrives
 abbrev pub session_answer : List Row → ℕ → Event → Running → Answer
 session_answer rows eff (Packet arrival) s = answer_by (first_discarding rows s.config (judging eff s) arrival)
-session_answer rows eff (Returned sequence) s = answer_to_return (awaits s.config sequence (settled s.config eff eff (begun (Some eff) s [])))
+session_answer rows eff (Returned sequence) s =
+    answer_to_return (awaits s.config sequence (settled s.config eff eff (begun (Some eff) s [])))
 session_answer rows eff event s = Handled
 
 -- that of the session at a place
