@@ -1,5 +1,6 @@
 //! A world of sessions on its way.
-ghost use Rattle.std.specs.Prelude.{◌≡◌, ◌⊎◌, ◌<◌, ◌≤◌, ◌+◌, ◌*◌, ◌++◌, ◌∷◌, None, Some, IfOk, IfSome, MatchResult, OnErr, OnOk, drop, false, length, map, max, take, []};
+ghost use Rattle.std.specs.Prelude.{◌≡◌, ◌⊎◌, ◌<◌, ◌≤◌, ◌+◌, ◌*◌, ◌++◌, ◌∷◌, None, Some, IfOk, IfSome, MatchResult, OnErr, OnOk};
+ghost use Rattle.std.specs.Prelude.{[], drop, false, length, map, max, take};
 ghost use Rattle.bfd_num.specs.Due.{has_come};
 ghost use Rattle.bfd_lanes.specs.Places.{least, places};
 ghost use Rattle.bfd_session.specs.Due.{due as due_tick};

@@ -1,5 +1,6 @@
 //! The events of a world.
-ghost use Rattle.std.specs.Prelude.{ℕ, ◌≡◌, ◌<◌, ◌≤◌, ◌+◌, ◌*◌, IfOk, IfSome, MatchResult, Some, List, [], false, length, map, max, slice_get};
+ghost use Rattle.std.specs.Prelude.{ℕ, ◌≡◌, ◌<◌, ◌≤◌, ◌+◌, ◌*◌, IfOk, IfSome, MatchResult, Some, List, [], length, slice_get};
+ghost use Rattle.std.specs.Prelude.{false, map, max};
 ghost use Rattle.bfd_num.specs.Due.{has_come};
 ghost use Rattle.bfd_lanes.specs.Places.{least, places};
 ghost use Rattle.bfd_session.specs.Due.{due as due_tick};
