@@ -5,7 +5,7 @@ ghost use Rattle.bfd_num.specs.Due.{has_come};
 ghost use Rattle.bfd_rules.specs.EventFrame.{course};
 ghost use Rattle.bfd_sbfd.specs.Over.{IsOver};
 ghost use Rattle.bfd_sbfd.specs.Sound.{IsInitiatorSound};
-ghost use Rattle.bfd_session.specs.declared.event.SessionConfig.TheVariants.{Initiator};
+ghost use Rattle.bfd_session.specs.declared.event.SessionConfig.TheVariants.{Initiator as InitiatorOf};
 ghost use Rattle.bfd_session.specs.Due as due;
 ghost use Rattle.bfd_session.specs.Inside.{initiator_of};
 ghost use Rattle.bfd_session.specs.Kinds.{plain};
@@ -22,14 +22,14 @@ use bfd_sbfd::{Initiator, deadline, wait};
 /// The event's own rules, after settling.
 fn acts(i: &mut Initiator, eff: u64, event: &Event, mark: &mut Mark, outs: &mut Outs) -> Answer
     requires eff { eff < moment_bound }
-    requires takes { CanTake (Initiator i.old.config) event.now }
+    requires takes { CanTake (InitiatorOf i.old.config) event.now }
     requires room { 1 ≤ outs.old.spare }
     ensures config { i.new.config ≡ i.old.config }
     ensures course { course i.new.vars mark.new outs.new.items
-        ≡ (session.acted (Initiator i.old.config) eff event.now (plain (course i.old.vars mark.old outs.old.items))).course }
+        ≡ (session.acted (InitiatorOf i.old.config) eff event.now (plain (course i.old.vars mark.old outs.old.items))).course }
     ensures answer { result
-        ≡ session.answer_of (Initiator i.old.config) event.now (plain (course i.old.vars mark.old outs.old.items)) }
-    ensures size { HasSize (Initiator i.old.config) event.now }
+        ≡ session.answer_of (InitiatorOf i.old.config) event.now (plain (course i.old.vars mark.old outs.old.items)) }
+    ensures size { HasSize (InitiatorOf i.old.config) event.now }
     ensures spare { outs.old.spare ≤ outs.new.spare + 1 }
     ensures room { outs.new.room ≡ outs.old.room }
 {
@@ -50,10 +50,10 @@ fn acts(i: &mut Initiator, eff: u64, event: &Event, mark: &mut Mark, outs: &mut 
 #[tactic(auto, unfolding(crate::specs::Step::step))]
 fn runs(i: &mut Initiator, eff: u64, event: &Event, outs: &mut Outs) -> Answer
     requires eff { eff < moment_bound }
-    requires takes { CanTake (Initiator i.old.config) event.now }
+    requires takes { CanTake (InitiatorOf i.old.config) event.now }
     requires room { 4 ≤ outs.old.spare }
     ensures config { i.new.config ≡ i.old.config }
-    ensures size { HasSize (Initiator i.old.config) event.now }
+    ensures size { HasSize (InitiatorOf i.old.config) event.now }
     ensures vars { i.new.vars ≡ (session.step_from eff event.now (initiator_of i.old) outs.old.items).course.vars }
     ensures outs { outs.new.items ≡ (session.step_from eff event.now (initiator_of i.old) outs.old.items).course.outs }
     ensures answer { result ≡ session.reply_from eff event.now (initiator_of i.old) outs.old.items }
@@ -71,10 +71,10 @@ fn runs(i: &mut Initiator, eff: u64, event: &Event, outs: &mut Outs) -> Answer
 /// An own event at its effective moment.
 pub fn steps(i: &mut Initiator, eff: u64, event: &Event, outs: &mut Outs) -> Answer
     requires eff { eff < moment_bound }
-    requires takes { CanTake (Initiator i.old.config) event.now }
+    requires takes { CanTake (InitiatorOf i.old.config) event.now }
     requires room { 4 ≤ outs.old.spare }
     ensures session { initiator_of i.new ≡ session.next eff event.now (initiator_of i.old) }
-    ensures size { HasSize (Initiator i.old.config) event.now }
+    ensures size { HasSize (InitiatorOf i.old.config) event.now }
     ensures outs { outs.new.items ≡ outs.old.items ++ session.emits eff event.now (initiator_of i.old) }
     ensures answer { result ≡ session.reply eff event.now (initiator_of i.old) }
     ensures sound { IsInitiatorSound i.new.config i.new.vars }
