@@ -332,7 +332,7 @@ def replayed(program, text):
         ran = subprocess.run([*program, "replay"], input=text.encode("ascii"), stdout=subprocess.PIPE)
     except OSError as fault:
         raise Complaint(f"{' '.join(program)} can't be run: {fault.strerror}") from None
-    os.environ["BFDD_TOLD"] = "yes"  # (bin/try needs to say once that nothing is proved)
+    os.environ["BFDD_NOTED"] = "yes"  # (bin/try needs to say once that nothing is proved)
     if ran.returncode not in (0, 2):
         raise Complaint(f"{' '.join(program)} replay ended with status {ran.returncode}{REFUSED.get(ran.returncode, '')}")
     try:

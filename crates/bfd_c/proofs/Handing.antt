@@ -5,11 +5,11 @@ use Rattle.std.specs.Borrow.{Bor}
 use Rattle.bfd_c.proofs.Common.{T, refl}
 use Rattle.bfd_script.specs.declared.line.entries.Line.{Line}
 use Rattle.bfd_rules.specs.declared.outputs.Out.{Out}
-use Rattle.bfd_c.specs.declared.telling.Answered.{Answered}
-use Rattle.bfd_c.specs.declared.telling.Output.{Output}
+use Rattle.bfd_c.specs.declared.structs.Answered.{Answered}
+use Rattle.bfd_c.specs.declared.structs.Output.{Output}
 use Rattle.bfd_c.specs.Engines.{Instance, asked, first_of}
 use Rattle.bfd_c.specs.Many.{Handed, handed_by, handed_behind, none_handed, one_before, outputs_in}
-use Rattle.bfd_c.specs.Telling.{answer_for_c}
+use Rattle.bfd_c.specs.Structs.{answer_for_c}
 
 stopped_behind : (left : List Out) (first : Option (Bor Out)) (place : Answered) (places : List Answered) (after : Instance)
     (behind : Handed)

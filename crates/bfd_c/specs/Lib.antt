@@ -6,7 +6,7 @@ pub mod Engines
 pub mod Wire
 pub mod Lines
 pub mod Fields
-pub mod Telling
+pub mod Structs
 pub mod Reading
 pub mod Opening
 pub mod Singles

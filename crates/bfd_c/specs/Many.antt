@@ -6,12 +6,12 @@ use Rattle.std.specs.List.{list_all}
 use Rattle.bfd_rules.specs.declared.outputs.Out.{Out}
 use Rattle.bfd_script.specs.declared.line.entries.Line.{Line}
 use Rattle.bfd_c.specs.declared.many.Arrived.{Arrived}
-use Rattle.bfd_c.specs.declared.telling.Answered.{Answered}
-use Rattle.bfd_c.specs.declared.telling.Output.{Output}
+use Rattle.bfd_c.specs.declared.structs.Answered.{Answered}
+use Rattle.bfd_c.specs.declared.structs.Output.{Output}
 use Rattle.bfd_c.specs.Engines.{Instance, asked, instance_after}
 use Rattle.bfd_c.specs.Lines.{packet_line}
 use Rattle.bfd_c.specs.Sizes.{answered_size, output_size, packet_size, sized}
-use Rattle.bfd_c.specs.Telling.{answer_for_c, output_of}
+use Rattle.bfd_c.specs.Structs.{answer_for_c, output_of}
 
 -- the event that one of many packets asks for
 abbrev pub line_of_arrived : Arrived → Option Line

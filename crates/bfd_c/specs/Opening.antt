@@ -10,7 +10,7 @@ use Rattle.bfd_c.specs.declared.fields.Fields.{Fields}
 use Rattle.bfd_c.specs.Engines.{Instance, new_instance, opened_by, opened_for}
 use Rattle.bfd_c.specs.Fields.{config_of}
 use Rattle.bfd_c.specs.Sizes.{complaint_size, session_size, sized}
-use Rattle.bfd_c.specs.Telling.{complaint_of}
+use Rattle.bfd_c.specs.Structs.{complaint_of}
 
 -- a table of one session
 abbrev pub one : SessionConfig → List SessionConfig
@@ -38,8 +38,8 @@ IsWhy (Err bad) Events = ⊥
 IsWhy (Ok s) Events = s.events ≢ []
 
 -- what a handle holds after it was opened with a text, with this struct for its complaint; and the code
-abbrev pub opened_telling : Complaint → Result Lists BadLine → Option Instance → Option Instance × ℕ
-opened_telling before text held = sized (before.size == complaint_size) (λ code. (held, code)) (opened_by text held)
+abbrev pub opened_reporting : Complaint → Result Lists BadLine → Option Instance → Option Instance × ℕ
+opened_reporting before text held = sized (before.size == complaint_size) (λ code. (held, code)) (opened_by text held)
 
 -- after it was opened with the session of these fields
 abbrev pub opened_with_fields : Fields → Option Instance → Option Instance × ℕ

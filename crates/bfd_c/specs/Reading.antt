@@ -1,11 +1,11 @@
 -- What the calls that read return, and what they change.
 use Rattle.std.specs.Prelude.{ℕ, ◌==◌, Option, None, Some, List, [], ◌∷◌}
 use Rattle.bfd_rules.specs.declared.outputs.Out.{Out}
-use Rattle.bfd_c.specs.declared.telling.Output.{Output}
-use Rattle.bfd_c.specs.declared.telling.Answered.{Answered}
+use Rattle.bfd_c.specs.declared.structs.Output.{Output}
+use Rattle.bfd_c.specs.declared.structs.Answered.{Answered}
 use Rattle.bfd_c.specs.Engines.{Instance, soonest}
 use Rattle.bfd_c.specs.Sizes.{answered_size, output_size, sized}
-use Rattle.bfd_c.specs.Telling.{output_of, answer_for_c}
+use Rattle.bfd_c.specs.Structs.{output_of, answer_for_c}
 
 -- an engine after the first output that is left was read, and the code
 abbrev pub next_by : List Out → Instance → Instance × ℕ

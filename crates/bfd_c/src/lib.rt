@@ -31,7 +31,7 @@ mod packing;
 mod reading;
 mod records;
 mod sizes;
-mod telling;
+mod structs;
 mod version;
 mod wire;
 
@@ -46,6 +46,6 @@ pub use names::bfdd_find_name;
 pub use opening::{Complaint, bfdd_close, bfdd_open, bfdd_open_session};
 pub use owned::{Opaque, Owned};
 pub use reading::{bfdd_answer, bfdd_due, bfdd_next};
-pub use telling::{Answered, Output};
+pub use structs::{Answered, Output};
 pub use version::bfdd_version;
 pub use wire::{Address, Packet};

@@ -76,7 +76,7 @@ fn widened(counts: &[u32; 25]) -> [u64; 25]
 }
 
 /// A look for C.
-fn told_look(look: &Look) -> SessionState
+fn state_of(look: &Look) -> SessionState
     ensures { result ≡ looking.state_for_c look.now }
 {
     SessionState {
@@ -117,7 +117,7 @@ fn read_state(engine: &Engine, discr: u32, state: &mut SessionState) -> u32
     }
     match engine.look(discr) {
         Some(look) => {
-            *state = told_look(&look);
+            *state = state_of(&look);
             DONE
         }
         None => NOT_FOUND,
@@ -137,7 +137,7 @@ pub extern "C" fn bfdd_state(
     state: &mut SessionState,
 ) -> u32
     ensures held { handle.new.kept.held ≡ handle.old.kept.held }
-    ensures told { (state.new, result) ≡ state_read discr handle.old.kept.held state.old }
+    ensures reported { (state.new, result) ≡ state_read discr handle.old.kept.held state.old }
 {
     match handle.take(alloc) {
         Some(engine) => {

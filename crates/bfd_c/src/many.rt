@@ -2,7 +2,7 @@
 ghost use Rattle.std.specs.Prelude.{◌≡◌, ◌≢◌, ◌≤◌, None, length, drop, min, take};
 ghost use Rattle.std.specs.List.{AllByRecursion};
 ghost use Rattle.bfd_c.specs.Engines.{asked, instance_after};
-ghost use Rattle.bfd_c.specs.Telling.{answer_for_c};
+ghost use Rattle.bfd_c.specs.Structs.{answer_for_c};
 ghost use Rattle.bfd_c.specs.Many as many;
 ghost use Rattle.bfd_c.specs.Many.{Handed, IsShort, handed, handed_to, line_of_arrived, many_by, many_read, outputs_in};
 
@@ -11,7 +11,7 @@ use crate::engine::{CLOSED, DONE, END, Engine, RANGE, SIZE};
 use crate::handle::Handle;
 use crate::reading::read_next;
 use crate::sizes;
-use crate::telling::{Answered, Output, told_answer};
+use crate::structs::{Answered, Output, answer_out};
 use crate::wire::Packet;
 use std::alloc::Global;
 
@@ -36,7 +36,7 @@ fn hear_one(alloc: Global, engine: &mut Engine, arrived: &Arrived<'_>, answer: &
 {
     let code = hear(alloc, engine, &arrived.packet, arrived.payload);
     if code == DONE {
-        *answer = told_answer(engine.discr(), engine.answer());
+        *answer = answer_out(engine.discr(), engine.answer());
     }
     code
 }
@@ -75,7 +75,7 @@ fn hand_in(
 /// Outputs in these places, as many as there are of both.
 fn read_into(engine: &mut Engine, places: &mut [Output]) -> usize
     ensures left { engine.new ≡ record engine.old { left = drop (length places.old) engine.old.left } }
-    ensures told { places.new ≡ outputs_in engine.old.left places.old }
+    ensures reported { places.new ≡ outputs_in engine.old.left places.old }
     ensures count { result ≡ min (length places.old) (length engine.old.left) }
 {
     let Some((place, others)) = places.split_first_mut() else {

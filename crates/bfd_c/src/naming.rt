@@ -4,7 +4,7 @@ ghost use Rattle.bfd_packet.specs.TestNames.{name_of};
 ghost use Rattle.bfd_packet.specs.Layout.{state_number as number_of_state};
 ghost use Rattle.bfd_rules.specs.Names as names;
 ghost use Rattle.bfd_c.specs.Records.{test_number};
-ghost use Rattle.bfd_c.specs.Telling as telling;
+ghost use Rattle.bfd_c.specs.Structs as structs;
 
 use crate::packing::packed_name;
 use bfd_packet::{State, Test};
@@ -27,7 +27,7 @@ pub(crate) fn test_number(test: Test) -> u32
 
 /// The number of a refusal.
 pub(crate) fn refusal_number(refusal: Refusal) -> u32
-    ensures { result ≡ telling.refusal_number refusal }
+    ensures { result ≡ structs.refusal_number refusal }
 {
     refusal as u32
 }
@@ -50,14 +50,14 @@ fn refusal_text(refusal: Refusal) -> &'static str
 
 /// The name of a test for C.
 pub(crate) fn test_name(test: Test) -> [u8; 20]
-    ensures { result ≡ telling.name_bytes (name_of test) }
+    ensures { result ≡ structs.name_bytes (name_of test) }
 {
     packed_name(test_text(test).as_bytes())
 }
 
 /// The name of a refusal for C.
 pub(crate) fn refusal_name(refusal: Refusal) -> [u8; 20]
-    ensures { result ≡ telling.name_bytes (names.refusal_name refusal) }
+    ensures { result ≡ structs.name_bytes (names.refusal_name refusal) }
 {
     packed_name(refusal_text(refusal).as_bytes())
 }

@@ -4,10 +4,10 @@ ghost use Rattle.bfd_instance.specs.Stage.{IsTable};
 ghost use Rattle.bfd_script.specs.Reading.{script_of};
 ghost use Rattle.bfd_c.specs.Engines.{new_instance};
 ghost use Rattle.bfd_c.specs.Fields.{config_of};
-ghost use Rattle.bfd_c.specs.Opening.{complained, IsOpenedWith, IsWhy, one, opened_telling, opened_with_fields};
+ghost use Rattle.bfd_c.specs.Opening.{complained, IsOpenedWith, IsWhy, one, opened_reporting, opened_with_fields};
 ghost use Rattle.bfd_c.specs.Sizes.{complaint_size, session_size};
 ghost use Rattle.bfd_c.specs.Singles.{IsInRanges};
-ghost use Rattle.bfd_c.specs.Telling as telling;
+ghost use Rattle.bfd_c.specs.Structs as structs;
 
 use crate::engine::{DONE, EVENTS, Engine, MEMORY, RANGE, SIZE, TEXT};
 use crate::fields::{Fields, config};
@@ -30,14 +30,14 @@ pub struct Complaint {
 
 /// The number of a fault.
 fn fault_number(fault: LineFault) -> u32
-    ensures { result ≡ telling.fault_number fault }
+    ensures { result ≡ structs.fault_number fault }
 {
     fault as u32
 }
 
 /// The complaint for C.
-fn told_complaint(bad: BadLine) -> Complaint
-    ensures { result ≡ telling.complaint_of bad }
+fn complaint_from(bad: BadLine) -> Complaint
+    ensures { result ≡ structs.complaint_of bad }
 {
     Complaint {
         size: sizes::COMPLAINT,
@@ -103,7 +103,7 @@ pub extern "C" fn bfdd_open(
     complaint: &mut Complaint,
 ) -> u32
     ensures done { result ≢ 2 → (handle.new.kept.held, result)
-        ≡ opened_telling complaint.old (script_of true text.now) handle.old.kept.held }
+        ≡ opened_reporting complaint.old (script_of true text.now) handle.old.kept.held }
     ensures kept { result ≡ 2 → handle.new.kept.held ≡ handle.old.kept.held }
     ensures memory { result ≡ 2 → complaint.old.size ≡ complaint_size }
     ensures complaint { complaint.new ≡ complained result (script_of true text.now) complaint.old }
@@ -118,7 +118,7 @@ pub extern "C" fn bfdd_open(
         }
         Err(Unopened::Memory) => MEMORY,
         Err(Unopened::Bad(bad)) => {
-            *complaint = told_complaint(bad);
+            *complaint = complaint_from(bad);
             TEXT
         }
         Err(Unopened::Events) => EVENTS,

@@ -6,17 +6,17 @@ ghost use Rattle.bfd_c.specs.Reading.{answer_read, due_read, due_read_by, next_b
 use crate::engine::{CLOSED, DONE, END, Engine, SIZE};
 use crate::handle::Handle;
 use crate::sizes;
-use crate::telling::{Answered, Output, tell_output, told_answer};
+use crate::structs::{Answered, Output, answer_out, write_output};
 use std::alloc::Global;
 
 /// The next output that wasn't read, in a struct of the size that is known.
 pub(crate) fn read_next(engine: &mut Engine, output: &mut Output) -> u32
     ensures call { (engine.new, result) ≡ next_by engine.old.left engine.old }
-    ensures told { output.new ≡ output_read engine.old.left output.old }
+    ensures reported { output.new ≡ output_read engine.old.left output.old }
 {
     match engine.first() {
         Some(out) => {
-            tell_output(out, output);
+            write_output(out, output);
             engine.read_on();
             DONE
         }
@@ -27,7 +27,7 @@ pub(crate) fn read_next(engine: &mut Engine, output: &mut Output) -> u32
 /// The same in a struct of any size.
 fn read_sized(engine: &mut Engine, output: &mut Output) -> u32
     ensures call { (engine.new, result) ≡ next_asked output.old engine.old }
-    ensures told { output.new ≡ output_asked output.old engine.old }
+    ensures reported { output.new ≡ output_asked output.old engine.old }
 {
     if output.size != sizes::OUTPUT {
         return SIZE;
@@ -43,7 +43,7 @@ fn read_sized(engine: &mut Engine, output: &mut Output) -> u32
 #[unsafe(no_mangle)]
 pub extern "C" fn bfdd_next(alloc: Global, handle: &mut Handle, output: &mut Output) -> u32
     ensures call { (handle.new.kept.held, result) ≡ held_by (next_asked output.old) handle.old.kept.held }
-    ensures told { output.new ≡ output_read_of handle.old.kept.held output.old }
+    ensures reported { output.new ≡ output_read_of handle.old.kept.held output.old }
 {
     match handle.take(alloc) {
         Some(engine) => {
@@ -63,13 +63,13 @@ pub extern "C" fn bfdd_next(alloc: Global, handle: &mut Handle, output: &mut Out
 #[unsafe(no_mangle)]
 pub extern "C" fn bfdd_answer(alloc: Global, handle: &mut Handle, answer: &mut Answered) -> u32
     ensures held { handle.new.kept.held ≡ handle.old.kept.held }
-    ensures told { (answer.new, result) ≡ answer_read handle.old.kept.held answer.old }
+    ensures reported { (answer.new, result) ≡ answer_read handle.old.kept.held answer.old }
 {
     match handle.take(alloc) {
         Some(engine) => {
             let mut code = SIZE;
             if answer.size == sizes::ANSWERED {
-                *answer = told_answer(engine.discr(), engine.answer());
+                *answer = answer_out(engine.discr(), engine.answer());
                 code = DONE;
             }
             handle.put(engine);
@@ -99,7 +99,7 @@ fn read_due(engine: &Engine, ms: &mut u64) -> u32
 #[unsafe(no_mangle)]
 pub extern "C" fn bfdd_due(alloc: Global, handle: &mut Handle, ms: &mut u64) -> u32
     ensures held { handle.new.kept.held ≡ handle.old.kept.held }
-    ensures told { (ms.new, result) ≡ due_read handle.old.kept.held ms.old }
+    ensures reported { (ms.new, result) ≡ due_read handle.old.kept.held ms.old }
 {
     match handle.take(alloc) {
         Some(engine) => {

@@ -2,7 +2,7 @@
 use crate::fields::Fields;
 use crate::looking::SessionState;
 use crate::opening::Complaint;
-use crate::telling::{Answered, Output};
+use crate::structs::{Answered, Output};
 use crate::wire::Packet;
 use std::mem::size_of;
 

@@ -47,7 +47,7 @@ pub(crate) fn read_address(address: &Address) -> Option<Addr>
 }
 
 /// Writes the address for C.
-pub(crate) fn tell_address(addr: &Addr, address: &mut Address)
+pub(crate) fn write_address(addr: &Addr, address: &mut Address)
     ensures { address.new ≡ address_for_c addr.now }
 {
     match addr {

@@ -78,27 +78,27 @@ fits row rows e =
 
 -- each test finds what the definition says, in its order
 
-pub told_many : (row : Row) (rows : List Row) → nat_le 65536 (length rows) ≡ true → Some adding.TooMany ≡ add_fault row rows
-told_many row rows many = rw many refl
+pub reported_many : (row : Row) (rows : List Row) → nat_le 65536 (length rows) ≡ true → Some adding.TooMany ≡ add_fault row rows
+reported_many row rows many = rw many refl
 
-pub told_zero : (row : Row) (rows : List Row) → nat_le 65536 (length rows) ≡ false → row.discr ≡ 0
+pub reported_zero : (row : Row) (rows : List Row) → nat_le 65536 (length rows) ≡ false → row.discr ≡ 0
     → Some adding.ZeroDiscr ≡ add_fault row rows
-told_zero row rows few zero = let is = eq-eqb row.discr 0 zero in rw (few, is) refl
+reported_zero row rows few zero = let is = eq-eqb row.discr 0 zero in rw (few, is) refl
 
-pub told_discr : (row : Row) (rows : List Row) → nat_le 65536 (length rows) ≡ false → (row.discr ≡ 0 → ⊥)
+pub reported_discr : (row : Row) (rows : List Row) → nat_le 65536 (length rows) ≡ false → (row.discr ≡ 0 → ⊥)
     → true ≡ list_any (same_discr row) rows
     → Some adding.SameDiscr ≡ add_fault row rows
-told_discr row rows few some same = let not_zero = ne_eqb row.discr 0 some in rw (few, not_zero, ← same) refl
+reported_discr row rows few some same = let not_zero = ne_eqb row.discr 0 some in rw (few, not_zero, ← same) refl
 
-pub told_addresses : (row : Row) (rows : List Row) → nat_le 65536 (length rows) ≡ false → (row.discr ≡ 0 → ⊥)
+pub reported_addresses : (row : Row) (rows : List Row) → nat_le 65536 (length rows) ≡ false → (row.discr ≡ 0 → ⊥)
     → false ≡ list_any (same_discr row) rows
     → true ≡ list_any (same_addresses row) rows → Some adding.SameAddresses ≡ add_fault row rows
-told_addresses row rows few some other same = let not_zero = ne_eqb row.discr 0 some in rw (few, not_zero, ← other, ← same) refl
+reported_addresses row rows few some other same = let not_zero = ne_eqb row.discr 0 some in rw (few, not_zero, ← other, ← same) refl
 
-pub told_none : (row : Row) (rows : List Row) → nat_le 65536 (length rows) ≡ false → (row.discr ≡ 0 → ⊥)
+pub reported_none : (row : Row) (rows : List Row) → nat_le 65536 (length rows) ≡ false → (row.discr ≡ 0 → ⊥)
     → false ≡ list_any (same_discr row) rows
     → false ≡ list_any (same_addresses row) rows → None ≡ add_fault row rows
-told_none row rows few some other apart = let not_zero = ne_eqb row.discr 0 some in rw (few, not_zero, ← other, ← apart) refl
+reported_none row rows few some other apart = let not_zero = ne_eqb row.discr 0 some in rw (few, not_zero, ← other, ← apart) refl
 
 -- a kind without addresses is like none
 pub unaddressed_rows : (kind : RowKind) (rows : List Row) → has_addresses kind ≡ false

@@ -1,5 +1,5 @@
 pub mod Rows
-pub mod Told
+pub mod FaultText
 pub mod Table
 pub mod Selection
 pub mod Parts

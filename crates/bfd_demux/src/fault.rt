@@ -1,7 +1,7 @@
 //! Why rows make no table, and why one isn't added.
 
 ghost use Rattle.std.specs.Prelude.{Some};
-ghost use Rattle.bfd_demux.specs.Told.{fault_text};
+ghost use Rattle.bfd_demux.specs.FaultText.{fault_text};
 
 use std::fmt;
 use thiserror::Error;

@@ -15,7 +15,7 @@ use std::sync::ledger::Ledger;
 /// Whether each entry's key is below the next entry's.
 fn is_ascending<K: Ord, V>(entries: &[(K, V)]) -> bool
     ensures rising { result ≡ true → IsAscending K.cmp entries.now }
-    ensures told { IsAscending K.cmp entries.now → result ≡ true }
+    ensures reported { IsAscending K.cmp entries.now → result ≡ true }
 {
     for place in 1..entries.len() {
         if !entries[place - 1].0.cmp(&entries[place].0).is_lt() {
@@ -31,7 +31,7 @@ pub fn sort_by_key<K: Ord + Copy, V>(entries: &mut Vec<(K, V)>) -> bool
     ensures permutation { IsPermutation entries.old.items entries.new.items }
     ensures ascending { HasKeysOnce K.cmp entries.old.items → IsAscending K.cmp entries.new.items }
     ensures once { result ≡ true → HasKeysOnce K.cmp entries.old.items }
-    ensures told { HasKeysOnce K.cmp entries.old.items → result ≡ true }
+    ensures reported { HasKeysOnce K.cmp entries.old.items → result ≡ true }
 {
     if is_ascending(entries) {
         return true;

@@ -9,7 +9,7 @@ use Rattle.bfd_edge.specs.declared.link.Received.{Received}
 use Rattle.bfd_edge.specs.declared.link.Received.TheVariants as received
 use Rattle.bfd_edge.specs.declared.memory_link.Heard.{Heard}
 use Rattle.bfd_edge.specs.declared.memory_link.Heard.TheVariants.{Got, Quiet, Failed}
-use Rattle.bfd_edge.specs.Links.{LinkTold, after_receive, counts_after_receive, packets_of}
+use Rattle.bfd_edge.specs.Links.{LinkObserved, after_receive, counts_after_receive, packets_of}
 use Rattle.bfd_edge.specs.MemoryLink.{Answers, Hears, IsPacket, items_used, packet_in, packets_in}
 
 -- the item at a place is the first behind it
@@ -65,9 +65,9 @@ heard_all items at received.Memory there =
     rw here (sym (append-nil (packets_in (take at items))), (first, refl))
 
 -- one more answer is observed of a link
-pub told_more : {packets more : List (ℕ × Arrival)} {sent : List Datagram} {counts : LinkCounts} {number : ℕ} (answer : Received)
-    → more ≡ packets ++ packets_of answer → {now : LinkTold}
+pub observed_more : {packets more : List (ℕ × Arrival)} {sent : List Datagram} {counts : LinkCounts} {number : ℕ} (answer : Received)
+    → more ≡ packets ++ packets_of answer → {now : LinkObserved}
     → now ≡ record { number = number; traffic = Some (record { received = packets; sent = sent }); counts = counts }
     → record { number = number; traffic = Some (record { received = more; sent = sent }); counts = counts_after_receive answer counts }
     ≡ after_receive answer now
-told_more {sent} answer is was = rw (was, is, append-nil sent) refl
+observed_more {sent} answer is was = rw (was, is, append-nil sent) refl

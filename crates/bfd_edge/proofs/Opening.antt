@@ -2,7 +2,7 @@
 use Rattle.std.proofs.Common.{◌≡◌, ℕ, zero, suc, ◌<◌, ◌≤◌, List, [], ◌∷◌, length, get_or, refl, arith, inr}
 use Rattle.std.specs.Prelude.{slice_set}
 use Rattle.bfd_edge.specs.Links.{IsNewLink}
-use Rattle.bfd_edge.specs.MemoryLink.{HeldLink, told_of}
+use Rattle.bfd_edge.specs.MemoryLink.{HeldLink, observed_of}
 use Rattle.bfd_edge.specs.MemoryPorts.{AllNew, ended_link, link_at, with_ended}
 
 pub link_there : (links : List HeldLink) (n : ℕ) (default : HeldLink) → n < length links → get_or links n default ≡ link_at links n
@@ -26,11 +26,11 @@ set_past [] (suc n) past = refl
 set_past (link ∷ links) zero past = absurd (omega arith)
 set_past (link ∷ links) (suc n) past = cc (set_past links n (omega arith))
 
-ended_new : IsNewLink (told_of ended_link)
+ended_new : IsNewLink (observed_of ended_link)
 ended_new = record { counts = refl; traffic = inr refl }
 
 -- a link that was never called stands at each number
-pub new_at : (links : List HeldLink) (n : ℕ) → AllNew links → IsNewLink (told_of (link_at links n))
+pub new_at : (links : List HeldLink) (n : ℕ) → AllNew links → IsNewLink (observed_of (link_at links n))
 new_at [] n all = ended_new
 new_at (link ∷ links) zero all = all.0
 new_at (link ∷ links) (suc n) all = new_at links n all.1

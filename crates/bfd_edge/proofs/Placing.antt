@@ -8,8 +8,8 @@ use Rattle.std.proofs.lemmas.Bool.{ltb-true, ltb-false, lt-ltb, le-ltb}
 use Rattle.std.proofs.lemmas.Bool.Decides.{nat_tests}
 use Rattle.bfd_edge.specs.declared.places.Place.{Place}
 use Rattle.bfd_edge.specs.declared.places.Place.TheVariants.{Waiting, Opened, Shut}
-use Rattle.bfd_edge.specs.Links.{LinkTold}
-use Rattle.bfd_edge.specs.Places.{is_opened, place_in, ports_told, told_in, with_place}
+use Rattle.bfd_edge.specs.Links.{LinkObserved}
+use Rattle.bfd_edge.specs.Places.{is_opened, place_in, ports_observed, observed_in, with_place}
 use Rattle.bfd_edge.specs.Ports.{after_open, after_shut}
 
 -- a fact on a refusal, where it holds in any case
@@ -69,28 +69,28 @@ if_or : (b other : Bool) → (if b then true else other) ≡ (b || other)
 if_or true other = refl
 if_or false other = refl
 
-never_shut : {T : Type 0} → (told : T → LinkTold) (place : Place T) → is_opened place ≡ false → told_in told place ≡ None
-never_shut told Waiting is = refl
-never_shut told Opened is = absurd (cc is)
-never_shut told (Shut kept) is = absurd (cc is)
+never_shut : {T : Type 0} → (observed : T → LinkObserved) (place : Place T) → is_opened place ≡ false → observed_in observed place ≡ None
+never_shut observed Waiting is = refl
+never_shut observed Opened is = absurd (cc is)
+never_shut observed (Shut kept) is = absurd (cc is)
 
 -- ports that opened a number
-pub open_told : {T L : Type 0} → (told : T → LinkTold) (old new : ℕ → Place T) (number faults : ℕ) (link : L)
+pub open_observed : {T L : Type 0} → (observed : T → LinkObserved) (old new : ℕ → Place T) (number faults : ℕ) (link : L)
     → new ≡ with_place number Opened old → is_opened (old number) ≡ false
-    → ports_told told new faults ≡ after_open number (Ok link) (ports_told told old faults)
-open_told told old new number faults link is waiting = rw is (λ r. record {
+    → ports_observed observed new faults ≡ after_open number (Ok link) (ports_observed observed old faults)
+open_observed observed old new number faults link is waiting = rw is (λ r. record {
   opened = λ n. (through is_opened (n == number) Opened (old n) ∙ if_or (n == number) (is_opened (old n))) r;
-  shut = λ n. unseen (told_in told) number n Opened old (sym (never_shut told (old number) waiting)) r;
+  shut = λ n. unseen (observed_in observed) number n Opened old (sym (never_shut observed (old number) waiting)) r;
   faults = faults;
 })
 
 -- ports that shut a number
-pub shut_told : {T : Type 0} → (told : T → LinkTold) (old new : ℕ → Place T) (number faults : ℕ) (kept : T)
+pub shut_observed : {T : Type 0} → (observed : T → LinkObserved) (old new : ℕ → Place T) (number faults : ℕ) (kept : T)
     → new ≡ with_place number (Shut kept) old → is_opened (old number) ≡ true
-    → ports_told told new faults ≡ after_shut number (told kept) (ports_told told old faults)
-shut_told told old new number faults kept is opened = rw is (λ r. record {
+    → ports_observed observed new faults ≡ after_shut number (observed kept) (ports_observed observed old faults)
+shut_observed observed old new number faults kept is opened = rw is (λ r. record {
   opened = λ n. unseen is_opened number n (Shut kept) old (sym opened) r;
-  shut = λ n. through (told_in told) (n == number) (Shut kept) (old n) r;
+  shut = λ n. through (observed_in observed) (n == number) (Shut kept) (old n) r;
   faults = faults;
 })
 

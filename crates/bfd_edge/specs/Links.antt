@@ -15,7 +15,7 @@ pub record Traffic : Type 0 where
   pub sent : List Datagram
 
 -- what is observed of a link: always the number by which it was opened and its counts; its traffic if it keeps that
-pub record LinkTold : Type 0 where
+pub record LinkObserved : Type 0 where
   pub number : ℕ
   pub traffic : Option Traffic
   pub counts : LinkCounts
@@ -25,9 +25,9 @@ abbrev pub no_counts : LinkCounts
 no_counts = record { receive_faults = 0; send_faults = 0; gave = 0; over = false }
 
 -- a link that was never called
-pub record IsNewLink (told : LinkTold) : Type 0 where
-  pub counts : told.counts ≡ no_counts
-  pub traffic : (told.traffic ≡ None) ⊎ (told.traffic ≡ Some (record { received = []; sent = [] }))
+pub record IsNewLink (observed : LinkObserved) : Type 0 where
+  pub counts : observed.counts ≡ no_counts
+  pub traffic : (observed.traffic ≡ None) ⊎ (observed.traffic ≡ Some (record { received = []; sent = [] }))
 
 -- more was received and sent, if the link keeps its traffic
 abbrev pub more_traffic : List (ℕ × Arrival) → List Datagram → Option Traffic → Option Traffic
@@ -53,10 +53,10 @@ counts_after_send (Err fault.Failed) counts = record counts { send_faults = rise
 counts_after_send (Err fault.Memory) counts = counts
 
 -- what is observed of a link after an answer to a receive
-abbrev pub after_receive : Received → LinkTold → LinkTold
-after_receive received told = record told {
-  traffic = more_traffic (packets_of received) [] told.traffic;
-  counts = counts_after_receive received told.counts;
+abbrev pub after_receive : Received → LinkObserved → LinkObserved
+after_receive received observed = record observed {
+  traffic = more_traffic (packets_of received) [] observed.traffic;
+  counts = counts_after_receive received observed.counts;
 }
 
 -- the datagram of a send that succeeded
@@ -65,8 +65,8 @@ sent_by datagram (Ok done) = datagram ∷ []
 sent_by datagram (Err fault) = []
 
 -- what is observed of a link after an answer to a send
-abbrev pub after_send : Datagram → Result (Unit {0}) Fault → LinkTold → LinkTold
-after_send datagram sent told = record told {
-  traffic = more_traffic [] (sent_by datagram sent) told.traffic;
-  counts = counts_after_send sent told.counts;
+abbrev pub after_send : Datagram → Result (Unit {0}) Fault → LinkObserved → LinkObserved
+after_send datagram sent observed = record observed {
+  traffic = more_traffic [] (sent_by datagram sent) observed.traffic;
+  counts = counts_after_send sent observed.counts;
 }

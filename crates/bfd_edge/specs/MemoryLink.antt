@@ -10,7 +10,7 @@ use Rattle.bfd_edge.specs.declared.link.Received.TheVariants as received
 use Rattle.bfd_edge.specs.declared.memory_link.Heard.{Heard}
 use Rattle.bfd_edge.specs.declared.memory_link.Heard.TheVariants.{Got, Quiet, Failed}
 use Rattle.bfd_edge.specs.Faults.{raised}
-use Rattle.bfd_edge.specs.Links.{LinkTold}
+use Rattle.bfd_edge.specs.Links.{LinkObserved}
 use Rattle.bfd_edge.specs.Memory.{is_to_fail}
 
 -- a link over memory
@@ -30,8 +30,8 @@ pub record HeldLink : Type 0 where
   pub counts : LinkCounts
 
 -- what is observed of it
-abbrev pub told_of : HeldLink → LinkTold
-told_of link = record {
+abbrev pub observed_of : HeldLink → LinkObserved
+observed_of link = record {
   number = link.number;
   traffic = Some (record { received = link.received; sent = link.sent });
   counts = link.counts;

@@ -9,8 +9,8 @@ use Rattle.bfd_edge.specs.Links.{IsNewLink, no_counts}
 use Rattle.bfd_edge.specs.Memory.{is_to_fail}
 use Rattle.bfd_edge.specs.MemoryLink.{HeldLink}
 use Rattle.bfd_edge.specs.MemoryLink as memory_link
-use Rattle.bfd_edge.specs.Places.{place_in, ports_told, with_place}
-use Rattle.bfd_edge.specs.Ports.{PortsTold}
+use Rattle.bfd_edge.specs.Places.{place_in, ports_observed, with_place}
+use Rattle.bfd_edge.specs.Ports.{PortsObserved}
 
 -- ports over memory
 pub record HeldPorts : Type 0 where
@@ -26,13 +26,13 @@ pub record HeldPorts : Type 0 where
   pub faults : ℕ
 
 -- what is observed of them
-abbrev pub told_of : HeldPorts → PortsTold
-told_of ports = ports_told memory_link.told_of (place_in ports.places) ports.faults
+abbrev pub observed_of : HeldPorts → PortsObserved
+observed_of ports = ports_observed memory_link.observed_of (place_in ports.places) ports.faults
 
 -- each of the links is one that was never called
 abbrev pub AllNew : List HeldLink → Type 0
 AllNew [] = ⊤
-AllNew (link ∷ links) = IsNewLink (memory_link.told_of link) × AllNew links
+AllNew (link ∷ links) = IsNewLink (memory_link.observed_of link) × AllNew links
 
 -- a link that is Ended from the start
 abbrev pub ended_link : HeldLink

@@ -4,7 +4,7 @@ use Rattle.bfd_edge.specs.declared.ticker.Next.{Next}
 use Rattle.bfd_edge.specs.declared.ticker.Next.TheVariants.{Got, Ended, Failed}
 use Rattle.bfd_edge.specs.Faults.{raised}
 use Rattle.bfd_edge.specs.Memory.{is_to_fail}
-use Rattle.bfd_edge.specs.Tickers.{TickerTold}
+use Rattle.bfd_edge.specs.Tickers.{TickerObserved}
 
 -- a ticker over memory
 pub record HeldTicker : Type 0 where
@@ -24,8 +24,8 @@ pub record HeldTicker : Type 0 where
   pub over : Bool
 
 -- what is observed of it
-abbrev pub told_of : HeldTicker → TickerTold
-told_of ticker = record {
+abbrev pub observed_of : HeldTicker → TickerObserved
+observed_of ticker = record {
   ticks = Some (record { given = ticker.given; left = ticker.left });
   faults = ticker.faults;
   gave = ticker.gave;

@@ -2,8 +2,8 @@
 use Rattle.std.specs.Prelude.{ℕ, zero, suc, ◌==◌, Bool, true, false, List, [], ◌∷◌, Option, Some, None, if◌then◌else◌}
 use Rattle.bfd_edge.specs.declared.places.Place.{Place}
 use Rattle.bfd_edge.specs.declared.places.Place.TheVariants.{Waiting, Opened, Shut}
-use Rattle.bfd_edge.specs.Links.{LinkTold}
-use Rattle.bfd_edge.specs.Ports.{PortsTold}
+use Rattle.bfd_edge.specs.Links.{LinkObserved}
+use Rattle.bfd_edge.specs.Ports.{PortsObserved}
 
 -- the place of a number in a list of places; numbers after its end are waiting
 abbrev pub place_in : {T : Type 0} → List (Place T) → ℕ → Place T
@@ -28,15 +28,15 @@ is_shut Opened = false
 is_shut (Shut kept) = true
 
 -- what was observed of the link of the number when it was shut, by what was kept of it
-abbrev pub told_in : {T : Type 0} → (T → LinkTold) → Place T → Option LinkTold
-told_in told Waiting = None
-told_in told Opened = None
-told_in told (Shut kept) = Some (told kept)
+abbrev pub observed_in : {T : Type 0} → (T → LinkObserved) → Place T → Option LinkObserved
+observed_in observed Waiting = None
+observed_in observed Opened = None
+observed_in observed (Shut kept) = Some (observed kept)
 
 -- what is observed of ports with these places
-abbrev pub ports_told : {T : Type 0} → (T → LinkTold) → (ℕ → Place T) → ℕ → PortsTold
-ports_told told places faults = record {
+abbrev pub ports_observed : {T : Type 0} → (T → LinkObserved) → (ℕ → Place T) → ℕ → PortsObserved
+ports_observed observed places faults = record {
   opened = λ n. is_opened (places n);
-  shut = λ n. told_in told (places n);
+  shut = λ n. observed_in observed (places n);
   faults = faults;
 }

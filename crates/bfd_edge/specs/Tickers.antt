@@ -10,7 +10,7 @@ pub record Ticks : Type 0 where
   pub left : List ℕ
 
 -- what is observed of a ticker: its ticks if it keeps them, and always the rest
-pub record TickerTold : Type 0 where
+pub record TickerObserved : Type 0 where
   pub ticks : Option Ticks
   -- how often it failed
   pub faults : ℕ
@@ -25,10 +25,10 @@ one_given tick None = None
 one_given tick (Some ticks) = Some (record { given = ticks.given ++ tick ∷ []; left = drop 1 ticks.left })
 
 -- what is observed of a ticker after an answer
-abbrev pub after_next : Next → TickerTold → TickerTold
-after_next (Got tick) told = record told { ticks = one_given tick told.ticks; gave = risen told.gave 1 }
-after_next Ended told = record told { over = true }
-after_next Failed told = record told { faults = risen told.faults 1 }
+abbrev pub after_next : Next → TickerObserved → TickerObserved
+after_next (Got tick) observed = record observed { ticks = one_given tick observed.ticks; gave = risen observed.gave 1 }
+after_next Ended observed = record observed { over = true }
+after_next Failed observed = record observed { faults = risen observed.faults 1 }
 
 -- a tick is the first of those that are left, and the end comes only when none is left
 abbrev pub IsInOrder : Next → Option Ticks → Type 0

@@ -86,20 +86,20 @@ impl LinkCounts {
 /// what it received and sent, each in order.
 pub trait Link {
     ghost use Rattle.std.specs.Prelude.{◌≡◌};
-    ghost use Rattle.bfd_edge.specs.Links.{LinkTold, after_receive, after_send};
+    ghost use Rattle.bfd_edge.specs.Links.{LinkObserved, after_receive, after_send};
 
     // What it reports.
-    ghost told: { Self → LinkTold };
+    ghost observed: { Self → LinkObserved };
 
     /// Asks for the next packet, and may wait for a while.
     ///
     /// `Got` and `Quiet` raise the count of what was given, `Ended` is remembered, `Failed` raises the count of failed
     /// receives, and `Memory` leaves all that the link reports.
     fn receive(&mut self) -> Received
-        ensures { told self.new ≡ after_receive result (told self.old) };
+        ensures { observed self.new ≡ after_receive result (observed self.old) };
 
     /// Sends a packet. `Failed` raises the count of failed sends, and the packet is not sent; `Memory` leaves all that the
     /// link reports.
     fn send(&mut self, datagram: &Datagram) -> Result<(), Fault>
-        ensures { told self.new ≡ after_send datagram.now result (told self.old) };
+        ensures { observed self.new ≡ after_send datagram.now result (observed self.old) };
 }

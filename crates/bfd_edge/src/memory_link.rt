@@ -1,7 +1,7 @@
 //! A link over memory.
 ghost use Rattle.std.specs.Prelude.{◌≡◌, [], slice_get};
 ghost use Rattle.bfd_edge.specs.Links.{after_receive, after_send, no_counts};
-ghost use Rattle.bfd_edge.specs.MemoryLink.{told_of, items_used, Answers, AnswersSend, Hears};
+ghost use Rattle.bfd_edge.specs.MemoryLink.{observed_of, items_used, Answers, AnswersSend, Hears};
 
 use crate::fault::Fault;
 use crate::link::{Link, LinkCounts, Received};
@@ -142,12 +142,12 @@ fn items_of(received: &Received) -> usize
 }
 
 impl Link for MemLink {
-    ghost told = { told_of };
+    ghost observed = { observed_of };
 
     /// Gives the next answer of the list, or Ended where none is left. `Memory` comes only at a packet, and leaves all as it
     /// was.
     fn receive(&mut self) -> Received
-        ensures after { told_of self.new ≡ after_receive result (told_of self.old) }
+        ensures after { observed_of self.new ≡ after_receive result (observed_of self.old) }
         ensures answer { Answers self.old.left result self.new.left }
         ensures sends { (self.new.sends ≡ self.old.sends) × (self.new.fails ≡ self.old.fails) }
     {
@@ -159,7 +159,7 @@ impl Link for MemLink {
 
     /// Keeps a copy of the packet, or fails where this send is one of those named. `Memory` leaves all as it was.
     fn send(&mut self, datagram: &Datagram) -> Result<(), Fault>
-        ensures after { told_of self.new ≡ after_send datagram.now result (told_of self.old) }
+        ensures after { observed_of self.new ≡ after_send datagram.now result (observed_of self.old) }
         ensures answer { AnswersSend self.old result self.new }
     {
         let send = self.sends;

@@ -4,7 +4,7 @@ ghost use Rattle.bfd_edge.specs.Links.{IsNewLink};
 ghost use Rattle.bfd_edge.specs.Ports.{after_open, after_shut};
 ghost use Rattle.bfd_edge.specs.Places.{is_shut, with_place, place_in};
 ghost use Rattle.bfd_edge.specs.MemoryLink as memory_link;
-ghost use Rattle.bfd_edge.specs.MemoryPorts.{told_of, AllNew, AnswersOpen, link_at, with_ended};
+ghost use Rattle.bfd_edge.specs.MemoryPorts.{observed_of, AllNew, AnswersOpen, link_at, with_ended};
 
 use crate::fault::Fault;
 use crate::memory_link::MemLink;
@@ -83,14 +83,14 @@ fn take_link(alloc: Global, links: &mut Vec<MemLink>, number: usize) -> MemLink
 impl Ports for MemPorts {
     type Link = MemLink;
 
-    ghost told = { told_of };
+    ghost observed = { observed_of };
 
     /// Opens the link of this number, or fails where this call is one of those named. `Memory` leaves all as it was.
     fn open(&mut self, number: u32) -> Result<MemLink, Fault>
-        requires { (told_of self.old).opened number ≡ false }
-        ensures link { IfOk result (λ link. IsNewLink (memory_link.told_of link)) }
+        requires { (observed_of self.old).opened number ≡ false }
+        ensures link { IfOk result (λ link. IsNewLink (memory_link.observed_of link)) }
         ensures number { IfOk result (λ link. link.number ≡ number) }
-        ensures after { told_of self.new ≡ after_open number result (told_of self.old) }
+        ensures after { observed_of self.new ≡ after_open number result (observed_of self.old) }
         ensures answer { AnswersOpen number self.old result self.new }
     {
         let call = self.calls;
@@ -111,9 +111,9 @@ impl Ports for MemPorts {
 
     /// Keeps the link under its number, and leaves all else. It allocates no memory.
     fn shut(&mut self, number: u32, link: MemLink)
-        requires opened { (told_of self.old).opened number ≡ true }
+        requires opened { (observed_of self.old).opened number ≡ true }
         requires number { link.number ≡ number }
-        ensures after { told_of self.new ≡ after_shut number (memory_link.told_of link) (told_of self.old) }
+        ensures after { observed_of self.new ≡ after_shut number (memory_link.observed_of link) (observed_of self.old) }
         ensures kept { place_in self.new.places ≡ with_place number (Place.Shut link) (place_in self.old.places) }
         ensures rest { self.new ≡ record self.old { places = self.new.places } }
     {

@@ -1,7 +1,7 @@
 //! A ticker over memory.
 ghost use Rattle.std.specs.Prelude.{◌≡◌, [], false};
 ghost use Rattle.bfd_edge.specs.Tickers.{after_next, IsInOrder};
-ghost use Rattle.bfd_edge.specs.MemoryTicker.{told_of, next_of, ticker_after};
+ghost use Rattle.bfd_edge.specs.MemoryTicker.{observed_of, next_of, ticker_after};
 
 use crate::ticker::{Next, Ticker};
 use bfd_num::Tick;
@@ -64,12 +64,12 @@ impl MemTicker {
 }
 
 impl Ticker for MemTicker {
-    ghost told = { told_of };
+    ghost observed = { observed_of };
 
     /// Gives the next tick of the list, or Ended where none is left, or fails where this call is one of those named.
     fn next(&mut self) -> Next
-        ensures after { told_of self.new ≡ after_next result (told_of self.old) }
-        ensures order { IsInOrder result (told_of self.old).ticks }
+        ensures after { observed_of self.new ≡ after_next result (observed_of self.old) }
+        ensures order { IsInOrder result (observed_of self.old).ticks }
         ensures answer { result ≡ next_of self.old }
         ensures state { self.new ≡ ticker_after self.old }
     {

@@ -21,16 +21,16 @@ pub enum Next {
 /// which ticks it gave, and which are left.
 pub trait Ticker {
     ghost use Rattle.std.specs.Prelude.{◌≡◌};
-    ghost use Rattle.bfd_edge.specs.Tickers.{TickerTold, after_next, IsInOrder};
+    ghost use Rattle.bfd_edge.specs.Tickers.{TickerObserved, after_next, IsInOrder};
 
     // What it reports.
-    ghost told: { Self → TickerTold };
+    ghost observed: { Self → TickerObserved };
 
     /// Asks for the next tick, and may wait for it.
     ///
     /// `Got` raises the count of what was given, `Ended` is remembered and comes only where none is left, and `Failed` raises
     /// the count of faults.
     fn next(&mut self) -> Next
-        ensures after { told self.new ≡ after_next result (told self.old) }
-        ensures order { IsInOrder result (told self.old).ticks };
+        ensures after { observed self.new ≡ after_next result (observed self.old) }
+        ensures order { IsInOrder result (observed self.old).ticks };
 }

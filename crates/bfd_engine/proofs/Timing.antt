@@ -40,12 +40,12 @@ pub turned_here : {old : Shard} (p q : OfShard) (event : ShardEvent) (between : 
     → q.seen ≡ old.journal ++ entry_of p.number event ∷ [] → outs2 ≡ outs ++ (outcome_of old.last event old.sessions).items
     → answer ≡ (outcome_of old.last event old.sessions).answer → old.limit ≡ limit_in p.base → length old.journal < old.limit → HadTurn p q
     → HasTurned p event q outs outs2 answer
-turned_here {old} p q event between outs s are others is seen told answered limit below had = record {
+turned_here {old} p q event between outs s are others is seen reported answered limit below had = record {
   between = between;
   others = others;
   seen = cc;
   below = omega (arith, ap length is, limit, below);
   had = had;
-  told = cc;
+  reported = cc;
   answered = cc;
 }

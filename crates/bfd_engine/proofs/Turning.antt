@@ -70,10 +70,10 @@ limit_is engine s p q base same = cc
 failed : (engine : Shards) (k : Knows) {l : Knows} (s : ℕ) {p : K} (q : K) {outs outs2 : List Out} (fault : EngineFault)
     → slice_get k.1 s ≡ Some (Some p) → l ≡ (k.0, set k.1 s (Some q), k.2) → p.1.number ≡ k.0 → IsSame p.1 q.1
     → HasLooked p.1 q.1 → outs2 ≡ outs → IsCause fault engine s l → HasUsed fault k l s → IsFailed engine s k l outs outs2 fault
-failed engine k s {p} q fault here is num same looked told cause used = record {
+failed engine k s {p} q fault here is num same looked reported cause used = record {
   between = looked.between;
   turned = turned k s q looked.between [] here is num same (cc (append-nil (p.1.seen ++ looked.between))) looked.others;
-  told = told;
+  reported = reported;
   cause = cause;
   used = used;
 }
@@ -83,26 +83,28 @@ fault_by : (engine : Shards) (k : Knows) {l : Knows} (s : ℕ) {p : K} (q : K) {
     → l ≡ (k.0, set k.1 s (Some q), k.2) → p.1.number ≡ k.0 → IsSame p.1 q.1 → HasLooked p.1 q.1 × IsTurnCause fault q.1
     × WasUsed fault p.1 q.1 → outs2 ≡ outs
     → IsFailed engine s k l outs outs2 (fault_of s fault)
-fault_by engine k s {p} q Memory here base is num same why told = failed engine k s q (fault_of s Memory) here is num same why.0 told
+fault_by engine k s {p} q Memory here base is num same why reported =
+    failed engine k s q (fault_of s Memory) here is num same why.0 reported
     (let a = ap (λ h. length (seen_of h)) (at_place k s q here is) in omega (arith, a, limit_is engine s p q base same, why.1))
     (has_used k s q Memory here is why.2)
-fault_by engine k s {p} q (Full n) here base is num same why told = failed engine k s q (fault_of s (Full n)) here is num same why.0 told
+fault_by engine k s {p} q (Full n) here base is num same why reported =
+    failed engine k s q (fault_of s (Full n)) here is num same why.0 reported
     (refl, why.1.1 ∙ limit_is engine s p q base same, ap (λ h. length (seen_of h)) (at_place k s q here is) ∙ why.1.0)
     (has_used k s q (Full n) here is why.2)
-fault_by engine k s q (Spent word) here base is num same why told =
-    failed engine k s q (fault_of s (Spent word)) here is num same why.0 told
+fault_by engine k s q (Spent word) here base is num same why reported =
+    failed engine k s q (fault_of s (Spent word)) here is num same why.0 reported
     (refl, why.1.0, ap met_word_of (at_place k s q here is) ∙ why.1.1) (has_used k s q (Spent word) here is why.2)
 
 -- a turn that added no entry
 pub fault_done : (engine : Shards) (k : Knows) {l : Knows} (s : ℕ) {p : K} (q : K)
-    (outs outs2 : Outputs) {r : Result Answer TurnFault} {fault : TurnFault} {told : EngineFault} → slice_get k.1 s ≡ Some (Some p)
+    (outs outs2 : Outputs) {r : Result Answer TurnFault} {fault : TurnFault} {reported : EngineFault} → slice_get k.1 s ≡ Some (Some p)
     → p.1.base ≡ Some (base_at engine s) → l ≡ (k.0, set k.1 s (Some q), k.2) → p.1.number ≡ k.0 → IsSame p.1 q.1
     → r ≡ Err fault → IfErr r (λ f. HasLooked p.1 q.1 × IsTurnCause f q.1 × WasUsed f p.1 q.1) → OnErr r (outs2 ≡ outs)
-    → told ≡ fault_of s fault → IsFailed engine s k l outs.items outs2.items told
-fault_done engine k s {p} q outs outs2 {fault} here base is num same e looked untold is_told =
+    → reported ≡ fault_of s fault → IsFailed engine s k l outs.items outs2.items reported
+fault_done engine k s {p} q outs outs2 {fault} here base is num same e looked unreported is_reported =
     let why = subst (λ x. IfErr x (λ f. HasLooked p.1 q.1 × IsTurnCause f q.1 × WasUsed f p.1 q.1)) e looked in
-    let u = subst (λ x. OnErr x (outs2 ≡ outs)) e untold in
-    rw is_told (fault_by engine k s q fault here base is num same why (cc))
+    let u = subst (λ x. OnErr x (outs2 ≡ outs)) e unreported in
+    rw is_reported (fault_by engine k s q fault here base is num same why (cc))
 
 -- a turn with its entry
 pub call_done : (engine : Shards) (k : Knows) {l : Knows} (s : ℕ) (event : ShardEvent) {p : K} (q : K)
@@ -115,6 +117,6 @@ call_done engine k s event {p} q outs outs2 {answer} here base is num same e all
       turned = turned k s q ok.between (entry_of k.0 event ∷ []) here is num same (rw (← num) ok.seen) ok.others;
       took = took k s q here is ok.had;
       below = omega (arith, ap (λ h. length (seen_of h ++ ok.between)) here, ap limit_in base, ok.below);
-      told = cc (given_is engine k s ok.between event here base);
+      reported = cc (given_is engine k s ok.between event here base);
       answered = cc (given_is engine k s ok.between event here base);
     }

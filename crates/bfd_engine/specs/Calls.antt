@@ -155,19 +155,19 @@ pub record IsCall (engine : Shards) (shard : ℕ) (event : ShardEvent) (k l : Kn
   pub turned : Turned k l shard between (entry_of k.0 event ∷ [])
   pub took : TookTurn k l shard
   pub below : length (seen_at k shard ++ between) < engine.limit
-  pub told : outs2 ≡ outs ++ (given_after (configs_at engine shard) (seen_at k shard ++ between) event).items
+  pub reported : outs2 ≡ outs ++ (given_after (configs_at engine shard) (seen_at k shard ++ between) event).items
   pub answered : answer ≡ (given_after (configs_at engine shard) (seen_at k shard ++ between) event).answer
 
 -- one turn with no entry
 pub record IsFailed (engine : Shards) (shard : ℕ) (k l : Knows) (outs outs2 : List Out) (fault : EngineFault) : Type 0 where
   pub between : List Entry
   pub turned : Turned k l shard between []
-  pub told : outs2 ≡ outs
+  pub reported : outs2 ≡ outs
   pub cause : IsCause fault engine shard l
   pub used : HasUsed fault k l shard
 
 -- what a call did
 abbrev pub IsDone : Act → Shards → Knows → Knows → List Out → List Out → Result Answer EngineFault → Type 0
-IsDone (Rests told answer) engine k l outs outs2 result = (result ≡ Ok answer) × (l ≡ k) × (outs2 ≡ outs ++ told)
+IsDone (Rests reported answer) engine k l outs outs2 result = (result ≡ Ok answer) × (l ≡ k) × (outs2 ≡ outs ++ reported)
 IsDone (Turns shard event) engine k l outs outs2 (Ok answer) = IsCall engine shard event k l outs outs2 answer
 IsDone (Turns shard event) engine k l outs outs2 (Err fault) = IsFailed engine shard k l outs outs2 fault

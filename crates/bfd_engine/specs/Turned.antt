@@ -72,7 +72,7 @@ pub record HasTurned (p : OfShard) (event : ShardEvent) (q : OfShard) (outs outs
   pub seen : q.seen ≡ (p.seen ++ between) ++ entry_of p.number event ∷ []
   pub below : length (p.seen ++ between) < limit_in p.base
   pub had : HadTurn p q
-  pub told : outs2 ≡ outs ++ (given_after (configs_in p.base) (p.seen ++ between) event).items
+  pub reported : outs2 ≡ outs ++ (given_after (configs_in p.base) (p.seen ++ between) event).items
   pub answered : answer ≡ (given_after (configs_in p.base) (p.seen ++ between) event).answer
 
 -- what a tick did that is the last entry seen: exactly the sessions that it expires forgot that a packet was heard (RFC 5880

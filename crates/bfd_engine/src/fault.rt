@@ -1,6 +1,6 @@
 //! Why a call of an engine is refused.
 ghost use Rattle.std.specs.Prelude.{Some};
-ghost use Rattle.bfd_engine.specs.Told.{fault_text, open_fault_text};
+ghost use Rattle.bfd_engine.specs.FaultText.{fault_text, open_fault_text};
 
 use bfd_demux::BuildFault;
 use std::fmt;

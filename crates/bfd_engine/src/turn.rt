@@ -43,7 +43,7 @@ pub(crate) fn turn_with<W: Timers, R: Wait, L: Ledger>(
     ensures timely { IfOk result.1 (λ _. IsTimely (configs_in pass.1.base) pass.1.number event result.0.1.seen) }
     ensures fault { IfErr result.1 (λ fault. HasLooked pass.1 result.0.1 × IsTurnCause fault result.0.1
         × WasUsed fault pass.1 result.0.1) }
-    ensures untold { OnErr result.1 (outs.new ≡ outs.old) }
+    ensures unreported { OnErr result.1 (outs.new ≡ outs.old) }
     ensures outs_room { outs.new.room ≡ outs.old.room }
     ensures spare { outs.old.spare ≤ outs.new.spare + room_in (configs_in pass.1.base) event }
     ensures cost { IsOwn event → steps.new ≤ steps.old + 2 }

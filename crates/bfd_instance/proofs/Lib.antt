@@ -3,7 +3,7 @@ pub mod Worlds
 pub mod Comings
 pub mod SameConfigs
 pub mod Stages
-pub mod Telling
+pub mod Emitting
 pub mod Joining
 pub mod Judged
 pub mod Resting

@@ -29,8 +29,8 @@ pub rests : (t last : ℕ) (ss ss2 : List Running) (none items : List Out) → A
     → ss2 ≡ moved last (Tick t) ss → items ≡ none ++ (outcome_of last (Tick t) ss).items
     → has_come (max last t) (least (map due ss)) ≡ false → (ss2 ≡ ss) × (items ≡ [])
 unfolding moved outcome_of
-rests t last ss ss2 none items sound empty made told nothing =
+rests t last ss ss2 none items sound empty made reported nothing =
     let still : NoneDue (max last t) ss = none_due (max last t) ss nothing in (
       made ∙ all_rest (max last t) ss sound still,
-      told ∙ ap₂ (λ xs ys. xs ++ ys) empty (none_emitted (max last t) ss sound still),
+      reported ∙ ap₂ (λ xs ys. xs ++ ys) empty (none_emitted (max last t) ss sound still),
     )

@@ -36,8 +36,8 @@ applied : (event : ShardEvent) (ss ss2 : List Running) (last last2 : ℕ) (none 
     → turn ≡ moved_turn event (world_of ss pool last) → none ≡ [] → ss2 ≡ moved last event ss → last2 ≡ later last event
     → items ≡ none ++ (outcome_of last event ss).items → answer ≡ (outcome_of last event ss).answer
     → turned ss2 pool last2 items answer ≡ turn
-applied event ss ss2 last last2 none items answer pool is empty made early told said =
-    let items_are : items ≡ (outcome_of last event ss).items = told ∙ ap (λ xs. xs ++ (outcome_of last event ss).items) empty in
+applied event ss ss2 last last2 none items answer pool is empty made early reported said =
+    let items_are : items ≡ (outcome_of last event ss).items = reported ∙ ap (λ xs. xs ++ (outcome_of last event ss).items) empty in
     rw made (rw early (rw items_are (rw said (sym is))))
 
 -- an own event
@@ -46,14 +46,14 @@ pub own_applied : (place moment : ℕ) (event : Event) (ss ss2 : List Running) (
     → ss2 ≡ moved last (Own place moment event) ss → last2 ≡ last
     → items ≡ none ++ (outcome_of last (Own place moment event) ss).items → answer ≡ (outcome_of last (Own place moment event) ss).answer
     → (pool : List Reflector) → turned ss2 pool last2 items answer ≡ own place moment event (world_of ss pool last)
-own_applied place moment event ss ss2 last last2 none items answer empty made early told said pool =
+own_applied place moment event ss ss2 last last2 none items answer empty made early reported said pool =
     applied (Own place moment event) ss ss2 last last2 none items answer pool (own_is place moment event (world_of ss pool last)) empty made
-    early told said
+    early reported said
 
 -- a tick
 pub ticks_applied : (t : ℕ) (ss ss2 : List Running) (last last2 : ℕ) (none items : List Out) (answer : Answer) → none ≡ []
     → ss2 ≡ moved last (Tick t) ss → last2 ≡ later last (Tick t)
     → items ≡ none ++ (outcome_of last (Tick t) ss).items → answer ≡ (outcome_of last (Tick t) ss).answer
     → (pool : List Reflector) → turned ss2 pool last2 items answer ≡ ticks t (world_of ss pool last)
-ticks_applied t ss ss2 last last2 none items answer empty made early told said pool =
-    applied (Tick t) ss ss2 last last2 none items answer pool (ticks_is t (world_of ss pool last)) empty made early told said
+ticks_applied t ss ss2 last last2 none items answer empty made early reported said pool =
+    applied (Tick t) ss ss2 last last2 none items answer pool (ticks_is t (world_of ss pool last)) empty made early reported said

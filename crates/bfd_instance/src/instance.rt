@@ -168,8 +168,9 @@ impl<W: Timers> Instance<W> {
     }
 
     /// One more session, of this configuration, which is within its ranges. Its variables are those of the start, at moment 0, and its
-    /// events are no earlier than the last tick. Answers its place. Nothing else changes, the outputs of the last event neither. A fault says why it isn't added, and then nothing has changed; `Memory` comes only
-    /// when out of memory, and where no other fault is. Takes time linear in the sessions and reflectors.
+    /// events are no earlier than the last tick. Returns its place. Nothing else changes, nor do the outputs of the last event. On a
+    /// fault nothing has changed; it says why the session isn't added, and is `Memory` only if nothing else is wrong. Takes time linear
+    /// in the sessions and reflectors.
     pub fn add(&mut self, alloc: Global, config: SessionConfig) -> Result<u32, AddFault>
         requires { IsFit config }
         ensures place { IfOk result (λ place. place ≡ place_for (discr_of config) (configs_of self.old.world.sessions)) }

@@ -14,7 +14,7 @@ pub use Rattle.bfd_packet.specs.Layout.{fields_of}
 pub use Rattle.bfd_packet.specs.declared.control.Control.{Control}
 pub use Rattle.bfd_rules.proofs.Courses.{OfOwn, after, changes-after, changes_names, chosen_names, either, own_name, sends-after}
 pub use Rattle.bfd_rules.proofs.Courses.{sends_names}
-pub use Rattle.bfd_rules.specs.EventFrame.{Course, based, begins, course, draws, enters, is_news, is_untold, stamped}
+pub use Rattle.bfd_rules.specs.EventFrame.{Course, based, begins, course, draws, enters, is_news, is_unannounced, stamped}
 unfoldable pub use Rattle.bfd_rules.specs.EventFrame.{changes, drawn, redrawn, sends}
 pub use Rattle.bfd_rules.specs.Quantities.{is_admin_down, is_up, may_send, tx_interval}
 pub use Rattle.bfd_rules.specs.declared.commands.Cmd.{Cmd}

@@ -1,5 +1,6 @@
 -- What was emitted before stays ahead of what a head's rules emit, and changes nothing else of them.
-use Rattle.bfd_mp.proofs.Common.{◌≡◌, ℕ, Bool, true, false, List, refl, is_some, floor_tick, has_come, Cmd, Out, Course, is_untold, based}
+use Rattle.bfd_mp.proofs.Common.{◌≡◌, ℕ, Bool, true, false, List, refl, is_some, floor_tick, has_come, Cmd, Out, Course, is_unannounced}
+use Rattle.bfd_mp.proofs.Common.{based}
 use Rattle.bfd_mp.proofs.Common.{redrawn, after, either, changes-after, sends-after, HeadConfig, transmits, head_refusal, head_commanded}
 use Rattle.bfd_mp.proofs.Common.{head_done}
 use Rattle.bfd_mp.specs.HeadSettle as settling
@@ -29,14 +30,14 @@ pub commanded-after : (c : HeadConfig) (cmd : Cmd) (os : List Out) (s : Course)
 unfolding head_commanded
 commanded-after c cmd os s = either os (is_some (head_refusal s.vars cmd)) s _ _ _ refl (changes-after c.discr (head_done cmd s.vars) os s)
 
-told-after : (c : HeadConfig) (eff : ℕ) (os : List Out) (s : Course)
+announced-after : (c : HeadConfig) (eff : ℕ) (os : List Out) (s : Course)
     → based eff (transmits c false (after os s)) ≡ after os (based eff (transmits c false s))
-told-after c eff os s = rw transmits-after refl
+announced-after c eff os s = rw transmits-after refl
 
 extra-after : (c : HeadConfig) (eff : ℕ) (os : List Out) (s : Course)
     → finishing.extra c eff (after os s) ≡ after os (finishing.extra c eff s)
 unfolding finishing.extra
-extra-after c eff os s = either os (is_untold true s.mark s.vars) _ s _ _ (told-after c eff os s) refl
+extra-after c eff os s = either os (is_unannounced true s.mark s.vars) _ s _ _ (announced-after c eff os s) refl
 
 pub finish-after : (c : HeadConfig) (eff : ℕ) (os : List Out) (s : Course)
     → finishing.finish c eff (after os s) ≡ after os (finishing.finish c eff s)

@@ -1,6 +1,6 @@
 -- Each output of a head or a tail names its discriminator: what is true of each output that does stays true of all outputs.
 use Rattle.bfd_mp.proofs.Common.{ℕ, Bool, true, false, List, is_some, Control, fields_of, floor_tick, has_come, Cmd, Out, is_admin_down}
-use Rattle.bfd_mp.proofs.Common.{Course, changes, is_untold, based, redrawn, OfOwn, own_name, chosen_names, changes_names, sends_names}
+use Rattle.bfd_mp.proofs.Common.{Course, changes, is_unannounced, based, redrawn, OfOwn, own_name, chosen_names, changes_names, sends_names}
 use Rattle.bfd_mp.proofs.Common.{HeadConfig, TailConfig, deadline, transmits, head_refusal, head_commanded, head_done, tail_refusal}
 use Rattle.bfd_mp.proofs.Common.{tail_commanded, tail_done}
 use Rattle.std.specs.List.{AllByRecursion}
@@ -38,7 +38,7 @@ head_commanded_names c P cmd s own h =
 extra_names : (c : HeadConfig) (P : Out → Type 0) (eff : ℕ) (s : Course) → OfOwn c.discr P → AllByRecursion P s.outs
     → AllByRecursion P (finishing.extra c eff s).outs
 unfolding finishing.extra
-extra_names c P eff s own h = chosen_names P (is_untold true s.mark s.vars) (based eff (transmits c false s)) s
+extra_names c P eff s own h = chosen_names P (is_unannounced true s.mark s.vars) (based eff (transmits c false s)) s
     (transmits_names c P false s own h) h
 
 pub head_finish_names : (c : HeadConfig) (P : Out → Type 0) (eff : ℕ) (s : Course) → OfOwn c.discr P → AllByRecursion P s.outs

@@ -1,7 +1,8 @@
 -- An event by which nothing is due, and which does nothing of its own, leaves sound variables as they are and emits
 -- nothing.
 use Rattle.bfd_mp.proofs.Common.{◌≡◌, ◌&&◌, not, ℕ, Bool, true, false, refl, sym, ap, List, floor_tick, has_come, Out, Vars, may_send}
-use Rattle.bfd_mp.proofs.Common.{Course, course, begins, is_news, is_untold, drawn, redrawn, HeadConfig, TailConfig, deadline, IsHeadSound}
+use Rattle.bfd_mp.proofs.Common.{Course, course, begins, is_news, is_unannounced, drawn, redrawn, HeadConfig, TailConfig, deadline}
+use Rattle.bfd_mp.proofs.Common.{IsHeadSound}
 use Rattle.bfd_mp.proofs.Common.{IsTailSound, Mark}
 use Rattle.std.proofs.Math.Bool.{and-false}
 use Rattle.bfd_rules.proofs.Still.{no_news, drawn_stands}
@@ -40,8 +41,8 @@ tail_settle_rests c limit s late = rw late refl
 tail_may_never : {c : TailConfig} (active : Bool) {v : Vars} → IsTailSound c v → may_send active v ≡ false
 tail_may_never active h = rw h.silent.remote_min_rx refl
 
-pub tail_tells_nothing : (c : TailConfig) (active : Bool) (m : Mark) (v : Vars) → IsTailSound c v → is_untold active m v ≡ false
-tail_tells_nothing c active m v h = rw (tail_may_never active h) (and-false (is_news m v && not m.answered))
+pub tail_announces_nothing : (c : TailConfig) (active : Bool) (m : Mark) (v : Vars) → IsTailSound c v → is_unannounced active m v ≡ false
+tail_announces_nothing c active m v h = rw (tail_may_never active h) (and-false (is_news m v && not m.answered))
 
 pub tail_draws_nothing : (c : TailConfig) (active : Bool) (m : Mark) (v : Vars) → IsTailSound c v → drawn active m v ≡ v
 unfolding drawn

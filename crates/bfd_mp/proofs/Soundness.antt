@@ -1,7 +1,7 @@
 -- Each part of an event keeps a head's variables steady and a tail's sound, and the end of a head's event makes them sound.
 use Rattle.bfd_mp.proofs.Common.{◌≡◌, ◌<◌, ◌≤◌, ◌==◌, ◌-◌, min, ℕ, Bool, true, false, refl, Some, IsSome, is_some, List, arith}
 use Rattle.bfd_mp.proofs.Common.{if◌then◌else◌, Control, fields_of, moment_bound, floor_tick, has_come, Cmd, Vars, is_up, is_admin_down}
-use Rattle.bfd_mp.proofs.Common.{Course, changes, sends, stamped, enters, is_untold, based, redrawn, HeadConfig, TailConfig, deadline}
+use Rattle.bfd_mp.proofs.Common.{Course, changes, sends, stamped, enters, is_unannounced, based, redrawn, HeadConfig, TailConfig, deadline}
 use Rattle.bfd_mp.proofs.Common.{IsHeadSteady, IsHeadSound, IsTailSound, transmits, head_refusal, head_commanded, head_done, tail_refusal}
 use Rattle.bfd_mp.proofs.Common.{tail_commanded, tail_done, common_steps, AdminDown, Down, Init, Up}
 use Rattle.std.proofs.lemmas.Bool.Decides.{nat_tests}
@@ -96,7 +96,8 @@ head_commanded_steady c cmd s steady = head_commanded_by c cmd s (is_some (head_
 extra_steady : (c : HeadConfig) {eff : ℕ} (s : Course) → eff < moment_bound → IsHeadSteady s.vars
     → IsHeadSteady (finishing.extra c eff s).vars
 unfolding finishing.extra transmits sends
-extra_steady c {eff} s h steady = steady_choice (is_untold true s.mark s.vars) (based eff (transmits c false s)) s (based_steady h steady)
+extra_steady c {eff} s h steady = steady_choice (is_unannounced true s.mark s.vars) (based eff (transmits c false s)) s
+    (based_steady h steady)
     steady
 
 head_finish_sound : (c : HeadConfig) {eff : ℕ} (s : Course) → eff < moment_bound → IsHeadSteady s.vars

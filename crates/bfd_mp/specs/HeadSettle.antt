@@ -4,7 +4,7 @@ use Rattle.std.specs.Prelude.{ℕ, ◌==◌, ◌-◌, not, if◌then◌else◌}
 use Rattle.bfd_num.specs.Numbers.{floor_tick}
 use Rattle.bfd_num.specs.Due.{has_come}
 use Rattle.bfd_rules.specs.declared.variables.Vars.{Vars}
-use Rattle.bfd_rules.specs.EventFrame.{Course, tells}
+use Rattle.bfd_rules.specs.EventFrame.{Course, announces}
 use Rattle.bfd_mp.specs.declared.config.HeadConfig.{HeadConfig}
 use Rattle.bfd_mp.specs.Counting.{counted}
 use Rattle.bfd_mp.specs.Transmit.{transmits}
@@ -17,7 +17,7 @@ one_fewer v = if v.left == 0 then v else counted (v.left - 1) v
 unfoldable pub periodic_packet : HeadConfig → ℕ → Course → Course
 periodic_packet c eff s =
     let sent : Course = transmits c (not (s.vars.left == 0)) s in
-    record sent { vars = record (one_fewer s.vars) { base = eff }; mark = tells s.vars s.mark }
+    record sent { vars = record (one_fewer s.vars) { base = eff }; mark = announces s.vars s.mark }
 
 -- a periodic packet is due (RFC 5880 section 6.8.7); a head sends it in every state, also in AdminDown
 unfoldable pub settle : HeadConfig → ℕ → ℕ → Course → Course

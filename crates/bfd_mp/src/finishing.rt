@@ -9,7 +9,7 @@ ghost use Rattle.bfd_mp.specs.Over.{IsSettled};
 
 use crate::HeadConfig;
 use crate::transmitting::transmits;
-use bfd_rules::{Mark, Outs, Vars, drawn, is_untold};
+use bfd_rules::{Mark, Outs, Vars, drawn, is_unannounced};
 
 /// The variables with the due tick as an event leaves it.
 pub fn drawn_anew(mark: &Mark, v: Vars) -> Vars
@@ -37,7 +37,7 @@ fn extra(config: &HeadConfig, eff: u64, vars: &mut Vars, mark: &mut Mark, outs: 
     ensures spare { outs.old.spare ≤ outs.new.spare + 1 }
     ensures room { outs.new.room ≡ outs.old.room }
 {
-    if is_untold(true, mark, vars) {
+    if is_unannounced(true, mark, vars) {
         transmits(config, false, vars, outs);
         vars.base = eff;
         mark.moved = true;

@@ -7,7 +7,7 @@ ghost use Rattle.bfd_rules.specs.declared.commands.Cmd.{Cmd};
 ghost use Rattle.bfd_rules.specs.declared.outputs.Out.{Out};
 ghost use Rattle.bfd_rules.specs.declared.variables.Mark.{Mark};
 ghost use Rattle.bfd_rules.specs.declared.variables.Vars.{Vars};
-ghost use Rattle.bfd_rules.specs.EventFrame.{Course, course, begins, is_untold, drawn};
+ghost use Rattle.bfd_rules.specs.EventFrame.{Course, course, begins, is_unannounced, drawn};
 ghost use Rattle.bfd_mp.specs.declared.config.HeadConfig.{HeadConfig};
 ghost use Rattle.bfd_mp.specs.declared.config.TailConfig.{TailConfig};
 ghost use Rattle.bfd_mp.specs.Waiting.{deadline};
@@ -61,8 +61,8 @@ pub fn tail_laws()
         → AllNamed c.discr (received c eff raw s).outs }
     ensures commanded_named { (c : TailConfig) (cmd : Cmd) (s : Course) → AllNamed c.discr s.outs
         → AllNamed c.discr (tail_commanded c cmd s).outs }
-    ensures tells_nothing { (c : TailConfig) (active : Bool) (m : Mark) (v : Vars) → IsTailSound c v
-        → is_untold active m v ≡ false }
+    ensures announces_nothing { (c : TailConfig) (active : Bool) (m : Mark) (v : Vars) → IsTailSound c v
+        → is_unannounced active m v ≡ false }
     ensures draws_nothing { (c : TailConfig) (active : Bool) (m : Mark) (v : Vars) → IsTailSound c v
         → drawn active m v ≡ v }
 {}

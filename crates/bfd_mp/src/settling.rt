@@ -10,11 +10,11 @@ use crate::HeadConfig;
 use crate::counting::counted;
 use crate::transmitting::transmits;
 use bfd_num::{floor_tick, has_come};
-use bfd_rules::{Mark, Outs, Vars, tells};
+use bfd_rules::{Mark, Outs, Vars, announces};
 
 /// What a periodic packet makes of the variables: where it carried P there is one fewer to be sent with it, and it moves
 /// the base.
-fn told(eff: u64, v: &Vars) -> Vars
+fn after_packet(eff: u64, v: &Vars) -> Vars
     requires eff { eff < moment_bound }
     ensures value { result ≡ record (settling.one_fewer v.now) { base = eff } }
     ensures steady { IsHeadSteady v.now → IsHeadSteady result }
@@ -44,8 +44,8 @@ fn periodic_packet(config: &HeadConfig, eff: u64, vars: &mut Vars, mark: &mut Ma
 {
     let poll = vars.left != 0;
     transmits(config, poll, vars, outs);
-    tells(vars, mark);
-    *vars = told(eff, vars);
+    announces(vars, mark);
+    *vars = after_packet(eff, vars);
 }
 
 /// Does what has come due by the limit, at the effective moment `eff`, both in microseconds.

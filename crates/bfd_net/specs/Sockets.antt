@@ -20,9 +20,9 @@ use Rattle.bfd_edge.specs.declared.link.LinkCounts.{LinkCounts}
 use Rattle.bfd_edge.specs.declared.link.Received.{Received}
 use Rattle.bfd_edge.specs.declared.link.Received.TheVariants.{Got, Quiet, Ended, Failed, Memory}
 use Rattle.bfd_edge.specs.declared.places.Place.{Place}
-use Rattle.bfd_edge.specs.Links.{LinkTold}
-use Rattle.bfd_edge.specs.Places.{place_in, ports_told}
-use Rattle.bfd_edge.specs.Ports.{PortsTold}
+use Rattle.bfd_edge.specs.Links.{LinkObserved}
+use Rattle.bfd_edge.specs.Places.{place_in, ports_observed}
+use Rattle.bfd_edge.specs.Ports.{PortsObserved}
 use Rattle.bfd_net.specs.Clocks.{IsSince}
 
 -- a link over a UDP socket
@@ -38,11 +38,11 @@ pub record UdpHeld : Type 0 where
   pub counts : LinkCounts
 
 -- what is observed of a link of this number and with these counts: no traffic
-abbrev pub counts_told : ℕ × LinkCounts → LinkTold
-counts_told kept = record { number = kept.0; traffic = None; counts = kept.1 }
+abbrev pub counts_observed : ℕ × LinkCounts → LinkObserved
+counts_observed kept = record { number = kept.0; traffic = None; counts = kept.1 }
 
-abbrev pub link_told : UdpHeld → LinkTold
-link_told link = counts_told (link.number, link.counts)
+abbrev pub link_observed : UdpHeld → LinkObserved
+link_observed link = counts_observed (link.number, link.counts)
 
 -- it answers Ended from here on: it only sends, or 500 answers in a row were Quiet
 abbrev pub is_done : Option (Port × ℕ) → ℕ → Bool
@@ -117,5 +117,5 @@ pub record UdpPortsHeld : Type 0 where
   -- how often opening failed
   pub faults : ℕ
 
-abbrev pub ports_told_of : UdpPortsHeld → PortsTold
-ports_told_of ports = ports_told counts_told (place_in ports.places) ports.faults
+abbrev pub ports_observed_of : UdpPortsHeld → PortsObserved
+ports_observed_of ports = ports_observed counts_observed (place_in ports.places) ports.faults

@@ -2,7 +2,7 @@
 ghost use Rattle.std.specs.Prelude.{◌≡◌, ◌≢◌, ◌↔◌, ◌<◌, ◌≤◌, ◌-◌, ◌^◌, false, true, length, take, Some, is_some, IfOk, IfSome, Err};
 ghost use Rattle.bfd_edge.specs.Links.{after_receive, after_send, no_counts};
 ghost use Rattle.bfd_net.specs.Hearing.{is_local_addr};
-ghost use Rattle.bfd_net.specs.Sockets.{answer_on_error, arrival_from, link_told, is_done, quiets_after, sent_of, CameTo, IsGot, IsHeard, IsTo};
+ghost use Rattle.bfd_net.specs.Sockets.{answer_on_error, arrival_from, link_observed, is_done, quiets_after, sent_of, CameTo, IsGot, IsHeard, IsTo};
 
 use crate::clock::SinceMade;
 use crate::hearing::is_local;
@@ -238,13 +238,13 @@ fn quiets_now(received: &Received, quiets: u32) -> u32
 }
 
 impl<R: Clock> Link for UdpLink<R> {
-    ghost told = { link_told };
+    ghost observed = { link_observed };
 
     /// Waits for a packet, for at most 20 milliseconds. Each that comes has interface 1, TTL 255, the port and the address that
     /// the link hears, its first 256 bytes, and the microseconds since the ports were made as its moment. Where the clock can't
     /// be read, and for every other error of the socket, the answer is `Failed`.
     fn receive(&mut self) -> Received
-        ensures after { link_told self.new ≡ after_receive result (link_told self.old) }
+        ensures after { link_observed self.new ≡ after_receive result (link_observed self.old) }
         ensures ended { (result ≡ Received.Ended) ↔ (is_done self.old.hears self.old.quiets ≡ true) }
         ensures came { CameTo self.old.made self.old.hears result }
         ensures quiets { self.new.quiets ≡ quiets_after result self.old.quiets }
@@ -264,7 +264,7 @@ impl<R: Clock> Link for UdpLink<R> {
     /// Sends a packet from the link's own port, with TTL 255. An address outside 127.0.0.0 to 127.255.255.255 is `Failed`, and
     /// so is every error of the socket.
     fn send(&mut self, datagram: &Datagram) -> Result<(), Fault>
-        ensures after { link_told self.new ≡ after_send datagram.now result (link_told self.old) }
+        ensures after { link_observed self.new ≡ after_send datagram.now result (link_observed self.old) }
         ensures local { is_local_addr datagram.now.dst ≡ false → result ≡ Err Fault.Failed }
         ensures no_memory_taken { result ≢ Err Fault.Memory }
         ensures kept { (self.new.hears ≡ self.old.hears) × (self.new.quiets ≡ self.old.quiets) × (self.new.made ≡ self.old.made) }

@@ -3,7 +3,7 @@ ghost use Rattle.std.specs.Prelude.{◌≡◌, ◌<◌, [], false, true, IfOk, I
 ghost use Rattle.bfd_edge.specs.Links.{IsNewLink, no_counts};
 ghost use Rattle.bfd_edge.specs.Ports.{after_open, after_shut};
 ghost use Rattle.bfd_net.specs.Hearing.{hears_of, IsSocketPlace};
-ghost use Rattle.bfd_net.specs.Sockets.{link_told, ports_told_of};
+ghost use Rattle.bfd_net.specs.Sockets.{link_observed, ports_observed_of};
 
 use crate::clock::SinceMade;
 use crate::hearing::{address_of_link, port_of_link, udp_port};
@@ -112,14 +112,14 @@ impl<R: Net + Clock + Copy> UdpPorts<R> {
 impl<R: Net + Clock + Copy> Ports for UdpPorts<R> {
     type Link = UdpLink<R>;
 
-    ghost told = { ports_told_of };
+    ghost observed = { ports_observed_of };
 
     /// Opens the link of this number. `Failed` comes where its socket isn't available, as where another has its port, and for a
     /// number above 1,275, for which 127.0.0.0/24 has no address.
     fn open(&mut self, number: u32) -> Result<UdpLink<R>, Fault>
-        requires { (ports_told_of self.old).opened number ≡ false }
-        ensures link { IfOk result (λ link. IsNewLink (link_told link)) }
-        ensures after { ports_told_of self.new ≡ after_open number result (ports_told_of self.old) }
+        requires { (ports_observed_of self.old).opened number ≡ false }
+        ensures link { IfOk result (λ link. IsNewLink (link_observed link)) }
+        ensures after { ports_observed_of self.new ≡ after_open number result (ports_observed_of self.old) }
         ensures number { IfOk result (λ link. link.number ≡ number) }
         ensures hears { IfOk result (λ link. (link.hears ≡ hears_of number) × (link.quiets ≡ 0)) }
         ensures made { IfOk result (λ link. link.made ≡ self.old.made) × (self.new.made ≡ self.old.made) }
@@ -137,9 +137,9 @@ impl<R: Net + Clock + Copy> Ports for UdpPorts<R> {
 
     /// Closes the link's socket, and keeps its number and what it counted.
     fn shut(&mut self, number: u32, link: UdpLink<R>)
-        requires opened { (ports_told_of self.old).opened number ≡ true }
+        requires opened { (ports_observed_of self.old).opened number ≡ true }
         requires number { link.number ≡ number }
-        ensures after { ports_told_of self.new ≡ after_shut number (link_told link) (ports_told_of self.old) }
+        ensures after { ports_observed_of self.new ≡ after_shut number (link_observed link) (ports_observed_of self.old) }
         ensures made { self.new.made ≡ self.old.made }
     {
         self.places.shut(number, (number, link.counts()));

@@ -17,9 +17,9 @@ pub struct ClockTicker<R: Clock> {
 
 impl<R: Clock> Model for ClockTicker<R> {
     ghost use Rattle.std.specs.Prelude.{false, None};
-    ghost use Rattle.bfd_edge.specs.Tickers.{TickerTold};
+    ghost use Rattle.bfd_edge.specs.Tickers.{TickerObserved};
 
-    ghost Value = { TickerTold };
+    ghost Value = { TickerObserved };
 
     ghost view = { λ t. record { ticks = None; faults = t.faults; gave = t.gave; over = false } };
 }
@@ -38,7 +38,7 @@ impl<R: Clock> ClockTicker<R> {
 }
 
 impl<R: Clock> Ticker for ClockTicker<R> {
-    ghost told = { λ t. t };
+    ghost observed = { λ t. t };
 
     /// Waits for the next millisecond, and answers the milliseconds since the ticker was made. `Failed` comes where the clock
     /// can't be read.

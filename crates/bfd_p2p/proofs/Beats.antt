@@ -10,14 +10,14 @@ use Rattle.bfd_rules.specs.declared.variables.Mark.{Mark}
 use Rattle.bfd_rules.specs.declared.variables.Poll.{Poll}
 use Rattle.bfd_rules.specs.declared.variables.Poll.TheVariants.{Idle, Wanted, Running}
 use Rattle.bfd_rules.specs.Quantities.{deadline, seq_deadline, may_send, is_idle}
-use Rattle.bfd_rules.specs.EventFrame.{Course, course, begins, tells, drawn, redrawn}
+use Rattle.bfd_rules.specs.EventFrame.{Course, course, begins, announces, drawn, redrawn}
 use Rattle.bfd_rules.specs.Sound.{IsRenewed, IsSteady, IsSound}
 use Rattle.bfd_rules.proofs.Still.{same_itself}
 use Rattle.bfd_p2p.specs.Settle.{settle, detection, sequence, periodic, periodic_packet, poll_sent}
 use Rattle.bfd_p2p.specs.Transmit.{transmits}
 use Rattle.bfd_p2p.specs.Finish.{finish, extra}
 use Rattle.bfd_p2p.specs.Beat.{IsBeat, redrawn_at, sent_at}
-use Rattle.bfd_p2p.proofs.Idle.{renews_told}
+use Rattle.bfd_p2p.proofs.Idle.{renews_announced}
 
 -- a due tick that has come is present
 there : (t : ℕ) (due : Option ℕ) → has_come t due ≡ true → IsSome due
@@ -34,9 +34,9 @@ settle_sends c limit eff s late seq_late due may = rw (late, seq_late, due, may)
 -- the packet leaves nothing to renew
 packet_sends : (c : Config) (eff : ℕ) (v : Vars) (m : Mark) (os outs : List Out) → IsRenewed (sent_at eff v)
     → course v m outs ≡ transmits c (not (is_idle v.poll)) false (course v m os)
-    → periodic_packet c eff (course v m os) ≡ course (sent_at eff v) (tells v m) outs
+    → periodic_packet c eff (course v m os) ≡ course (sent_at eff v) (announces v m) outs
 unfolding periodic_packet
-packet_sends c eff v m os outs h sent = rw (← sent) (sym (renews_told eff v.seq v (tells v m) outs h))
+packet_sends c eff v m os outs h sent = rw (← sent) (sym (renews_announced eff v.seq v (announces v m) outs h))
 
 -- a Poll Sequence that begins was on before
 may_stay : (active : Bool) (eff : ℕ) (v : Vars) (poll : Poll)
@@ -47,7 +47,7 @@ may_stay active eff v (Running first) = refl
 
 -- the end of the tick has nothing to report
 finish_draws : (c : Config) (eff : ℕ) (v : Vars) (outs : List Out) → may_send c.active (sent_at eff v) ≡ true
-    → finish c eff (course (sent_at eff v) (tells v (begins v)) outs) ≡ course (redrawn_at eff v) (tells v (begins v)) outs
+    → finish c eff (course (sent_at eff v) (announces v (begins v)) outs) ≡ course (redrawn_at eff v) (announces v (begins v)) outs
 unfolding finish extra redrawn drawn
 finish_draws c eff v outs may = rw (same_itself v.state, eq-eqb v.diag v.diag refl, may) refl
 

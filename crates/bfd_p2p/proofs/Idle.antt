@@ -9,7 +9,7 @@ use Rattle.bfd_rules.specs.Quantities.{adv_tx, demand_here, is_idle}
 use Rattle.bfd_packet.specs.declared.control.Control.{Control}
 use Rattle.bfd_packet.specs.declared.keys.SeqState.{SeqState}
 use Rattle.bfd_rules.specs.declared.variables.Mark.{Mark}
-use Rattle.bfd_rules.specs.EventFrame.{Course, course, changes, told}
+use Rattle.bfd_rules.specs.EventFrame.{Course, course, changes, changed_between}
 use Rattle.bfd_rules.specs.Renewal.{poll_renewed, used_renewed, demand_renewed, renewed}
 use Rattle.bfd_rules.specs.Sound.{IsRenewed}
 use Rattle.bfd_rules.proofs.Still.{same_itself}
@@ -54,8 +54,8 @@ renewed_idle eff before {v} h adv rx demand = cc (poll_stands before v adv rx, u
 changes_none : (discr : ℕ) (s : Course) → changes discr s.vars s ≡ s
 unfolding changes
 changes_none discr s =
-    let untold : told discr s.vars s.vars ≡ [] = rw (same_itself s.vars.state) refl in
-    ap (λ os. record s { vars = s.vars; outs = os }) (ap (λ os. s.outs ++ os) untold ∙ append-nil s.outs)
+    let unannounced : changed_between discr s.vars s.vars ≡ [] = rw (same_itself s.vars.state) refl in
+    ap (λ os. record s { vars = s.vars; outs = os }) (ap (λ os. s.outs ++ os) unannounced ∙ append-nil s.outs)
 
 -- a rule that changes nothing does nothing
 pub moves_none : (discr eff : ℕ) (s : Course) → IsRenewed s.vars → moves discr eff s.vars s ≡ s
@@ -63,12 +63,12 @@ unfolding moves
 moves_none discr eff s h = cc (renewed_idle eff s.vars h refl refl refl, changes_none discr s)
 
 -- nor does a periodic packet leave anything to renew
-pub renews_told : (eff : ℕ) (seq : SeqState) (v : Vars) (m : Mark) (os : List Out)
+pub renews_announced : (eff : ℕ) (seq : SeqState) (v : Vars) (m : Mark) (os : List Out)
     → IsRenewed (record v { seq = seq; poll = poll_sent eff v.poll; base = eff })
     → course (record v { seq = seq; poll = poll_sent eff v.poll; base = eff }) m os
     ≡ renews eff (record v { seq = seq; poll = poll_sent eff v.poll; base = eff }) (course v m os)
 unfolding renews
-renews_told eff seq v m os h = cc (renewed_idle eff v h refl refl refl)
+renews_announced eff seq v m os h = cc (renewed_idle eff v h refl refl refl)
 
 -- nor does the sequence state that a packet leaves
 pub renews_sequence : (eff : ℕ) (seq : SeqState) (heard : Option ℕ) (v : Vars) (m : Mark) (os : List Out) → IsRenewed v

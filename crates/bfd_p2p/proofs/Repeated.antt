@@ -154,7 +154,7 @@ is_again c eff ttl raw v steady h calm passes repeated late seq_late due_later =
     }
 
 -- the same by what the code looks at
-pub tells_nothing : (c : Config) (eff ttl : ℕ) (raw : List ℕ) (packet : Control) (v : Vars) → packet ≡ fields_of raw → IsSteady c v
+pub announces_nothing : (c : Config) (eff ttl : ℕ) (raw : List ℕ) (packet : Control) (v : Vars) → packet ≡ fields_of raw → IsSteady c v
     → v.state ≡ Up → c.keys ≡ None → v.demand ≡ false → v.remote_demand ≡ false → v.echo_every ≡ 0 → IsSome v.tx_due
     → may_send c.active v ≡ true
     → packet.state ≡ Up → packet.poll ≡ false → packet.fin ≡ false → packet.my ≡ v.remote_discr
@@ -162,7 +162,8 @@ pub tells_nothing : (c : Config) (eff ttl : ℕ) (raw : List ℕ) (packet : Cont
     → packet.mult ≡ v.remote_mult → packet.min_tx ≡ v.remote_tx → find (session_fails c ttl packet) session_tests ≡ None
     → has_come eff (deadline v) ≡ false → has_come eff (seq_deadline v) ≡ false → has_come (floor_tick eff) v.tx_due ≡ false
     → IsSteady c (heard_again eff v) → IsAgain c eff ttl raw v
-tells_nothing c eff ttl raw packet v is before up plain demand remote_demand echoless there may packet_up poll fin my asks rx echo mult tx
+announces_nothing c eff ttl raw packet v is before up plain demand remote_demand echoless there may packet_up poll fin my asks rx echo mult
+    tx
     passes late seq_late due_later steady =
     let known : heard_from eff packet v ≡ heard_up eff v = rw (my, packet_up, asks, rx, echo, mult, tx) refl in
     let calm : IsCalm c v = record {

@@ -4,7 +4,7 @@ use Rattle.bfd_num.specs.Numbers.{next_j}
 use Rattle.bfd_rules.specs.declared.config.Config.{Config}
 use Rattle.bfd_rules.specs.declared.outputs.Out.{Out}
 use Rattle.bfd_rules.specs.declared.variables.Vars.{Vars}
-use Rattle.bfd_rules.specs.EventFrame.{course, begins, tells}
+use Rattle.bfd_rules.specs.EventFrame.{course, begins, announces}
 use Rattle.bfd_rules.specs.Jitter.{pick}
 use Rattle.bfd_rules.specs.Quantities.{tx_interval}
 use Rattle.bfd_rules.specs.Sound.{IsSound}
@@ -23,8 +23,9 @@ redrawn_at eff v =
 
 -- what the parts of the tick do: settling sends the packet, so that the outputs become outs, and the end draws the due tick
 pub record IsBeat (c : Config) (limit eff : ℕ) (v : Vars) (os outs : List Out) : Type 0 where
-  pub settled : settle c limit eff (course v (begins v) os) ≡ course (sent_at eff v) (tells v (begins v)) outs
-  pub finished : finish c eff (course (sent_at eff v) (tells v (begins v)) outs) ≡ course (redrawn_at eff v) (tells v (begins v)) outs
+  pub settled : settle c limit eff (course v (begins v) os) ≡ course (sent_at eff v) (announces v (begins v)) outs
+  pub finished : finish c eff (course (sent_at eff v) (announces v (begins v)) outs)
+      ≡ course (redrawn_at eff v) (announces v (begins v)) outs
   pub over : limit ≤ eff → IsOver limit (redrawn_at eff v)
   pub sound : IsSound c (redrawn_at eff v)
   pub echoless : v.echo_every ≡ 0

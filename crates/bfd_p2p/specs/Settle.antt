@@ -10,7 +10,7 @@ use Rattle.bfd_rules.specs.declared.variables.Poll.{Poll}
 use Rattle.bfd_rules.specs.declared.variables.Poll.TheVariants.{Idle, Wanted, Running}
 use Rattle.bfd_rules.specs.declared.variables.Vars.{Vars}
 use Rattle.bfd_rules.specs.Quantities.{deadline, seq_deadline, may_send, is_idle}
-use Rattle.bfd_rules.specs.EventFrame.{Course, enters, tells}
+use Rattle.bfd_rules.specs.EventFrame.{Course, enters, announces}
 use Rattle.bfd_p2p.specs.Frame.{renews, moves}
 use Rattle.bfd_p2p.specs.Transmit.{transmits}
 
@@ -48,7 +48,7 @@ unfoldable pub periodic_packet : Config → ℕ → Course → Course
 periodic_packet c eff s =
     let sent : Course = transmits c (not (is_idle s.vars.poll)) false s in
     renews eff (record sent.vars { poll = poll_sent eff s.vars.poll; base = eff })
-    (record sent { vars = s.vars; mark = tells s.vars s.mark })
+    (record sent { vars = s.vars; mark = announces s.vars s.mark })
 
 -- 3. Periodic: a periodic packet is due (section 6.8.7)
 unfoldable pub periodic : Config → ℕ → ℕ → Course → Course

@@ -12,7 +12,7 @@ ghost use Rattle.bfd_rules.specs.Sound.{IsSteady, IsSound};
 ghost use Rattle.bfd_p2p.specs.Transmit as transmit;
 ghost use Rattle.bfd_p2p.specs.Beat.{IsBeat, redrawn_at, sent_at};
 
-use crate::settling::told;
+use crate::settling::after_packet;
 use crate::transmitting::transmits_plain;
 use bfd_num::{floor_tick, has_come, next_j};
 use bfd_rules::{Config, Outs, Poll, Vars, deadline, pick, seq_deadline, tx_interval};
@@ -54,7 +54,7 @@ fn sends_periodic(config: &Config, eff: u64, vars: &mut Vars, outs: &mut Outs)
 {
     let poll = !matches!(vars.poll, Poll::Idle);
     transmits_plain(config, poll, false, vars, outs);
-    told(eff, vars.seq, vars);
+    after_packet(eff, vars.seq, vars);
 }
 
 /// The next due tick is drawn.

@@ -9,7 +9,7 @@ ghost use Rattle.bfd_p2p.specs.Finish as finishing;
 ghost use Rattle.bfd_p2p.specs.Over.{IsSettled};
 
 use crate::transmitting::transmits;
-use bfd_rules::{Config, Mark, Outs, Vars, draw, is_untold};
+use bfd_rules::{Config, Mark, Outs, Vars, draw, is_unannounced};
 
 /// A changed state or diagnostic is sent immediately, unless a packet with F has sent it or none may be sent.
 #[tactic(auto, unfolding(crate::specs::Finish::extra))]
@@ -29,7 +29,7 @@ fn extra(config: &Config, eff: u64, vars: &mut Vars, mark: &mut Mark, outs: &mut
     ensures spare { outs.old.spare ≤ outs.new.spare + 1 }
     ensures room { outs.new.room ≡ outs.old.room }
 {
-    if is_untold(config.active, mark, vars) {
+    if is_unannounced(config.active, mark, vars) {
         vars.seq = transmits(config, false, false, vars, outs);
         vars.base = eff;
         mark.moved = true;

@@ -17,7 +17,9 @@ use crate::frame::{moves, renews};
 use crate::transmitting::transmits;
 use bfd_num::{floor_tick, has_come};
 use bfd_packet::{SeqState, State};
-use bfd_rules::{Config, Mark, Outs, Poll, Vars, deadline, enters, may_send, seq_deadline, tells};
+use bfd_rules::{
+    Config, Mark, Outs, Poll, Vars, announces, deadline, enters, may_send, seq_deadline,
+};
 
 /// The peer is forgotten, and a session in Init or Up goes Down with diagnostic 1.
 fn goes_silent(v: &Vars) -> Vars
@@ -105,8 +107,8 @@ fn poll_sent(eff: u64, poll: Poll) -> Poll
 }
 
 /// What a periodic packet makes of the variables. It leaves nothing to renew.
-#[tactic(auto, using(crate::proofs::Later::wait_later, crate::proofs::Idle::renews_told))]
-pub fn told(eff: u64, seq: SeqState, v: &mut Vars)
+#[tactic(auto, using(crate::proofs::Later::wait_later, crate::proofs::Idle::renews_announced))]
+pub fn after_packet(eff: u64, seq: SeqState, v: &mut Vars)
     requires eff { eff < moment_bound }
     requires mult { 0 < v.old.mult }
     requires interval { 10000 ≤ v.old.used_tx }
@@ -139,7 +141,7 @@ fn periodic_packet(config: &Config, eff: u64, vars: &mut Vars, mark: &mut Mark, 
     ensures answered { mark.new.answered ≡ mark.old.answered }
     ensures base { vars.new.base ≡ eff }
     ensures state { vars.new.state ≡ vars.old.state }
-    ensures told { mark.new.state ≡ vars.new.state }
+    ensures announced { mark.new.state ≡ vars.new.state }
     ensures late { (limit : ℕ) → limit ≤ eff → due.has_come limit (deadline_of vars.old) ≡ false
         → due.has_come limit (deadline_of vars.new) ≡ false }
     ensures seq_same { seq_deadline_of vars.new ≡ seq_deadline_of vars.old }
@@ -148,8 +150,8 @@ fn periodic_packet(config: &Config, eff: u64, vars: &mut Vars, mark: &mut Mark, 
 {
     let poll = !matches!(vars.poll, Poll::Idle);
     let seq = transmits(config, poll, false, vars, outs);
-    tells(vars, mark);
-    told(eff, seq, vars);
+    announces(vars, mark);
+    after_packet(eff, seq, vars);
 }
 
 /// Periodic: a periodic packet is due (section 6.8.7).
@@ -174,7 +176,7 @@ fn periodic(
     ensures seq_same { seq_deadline_of vars.new ≡ seq_deadline_of vars.old }
     ensures based { mark.old.moved ≡ false → mark.new.moved ≡ true → vars.new.base ≡ eff }
     ensures state { vars.new.state ≡ vars.old.state }
-    ensures told { mark.new.moved ≡ true → mark.old.moved ≡ false → mark.new.state ≡ vars.new.state }
+    ensures announced { mark.new.moved ≡ true → mark.old.moved ≡ false → mark.new.state ≡ vars.new.state }
     ensures vars_rest { mark.new.moved ≡ false → vars.new ≡ vars.old }
     ensures mark_rests { mark.new.moved ≡ false → mark.new ≡ mark.old }
     ensures due_later { mark.new.moved ≡ false → may_send_of config.now.active vars.old ≡ true

@@ -10,7 +10,6 @@ use bfd_packet::{Control, Datagram, Keys, SOURCE_PORT, SeqState, Wire, write_pla
 use bfd_rules::{Config, Outs, Role, Vars, adv_tx, demand_here, sends};
 
 /// The fields of a transmitted packet, with P and F as the rule that sends it says.
-#[inline]
 fn packet_of(config: &Config, v: &Vars, poll: bool, fin: bool) -> Control
     ensures { result ≡ transmit.packet_of config.now v.now poll fin }
 {

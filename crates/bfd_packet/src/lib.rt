@@ -5,8 +5,8 @@
 //! session (section 6.7), and the bounded buffers that hold bytes.
 //!
 //! It stands on `byteorder` and `arrayvec` alone. It promises that `header_test` and `read` are the
-//! standard's sentences for every payload and port, that `write` is the standard's layout, that what is
-//! written reads back, and that only `Payload::keep` and copies allocate memory.
+//! standard's sentences for every payload and port, that `write` is the standard's layout, that
+//! `write_plain` gives the same without a section, that what is written reads back, and that only `Payload::keep` and copies allocate memory.
 #![tactic(auto)]
 
 mod arrival;

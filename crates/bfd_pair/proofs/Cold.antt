@@ -1,7 +1,8 @@
 -- A session outside Init and Up that handles no packet stays there, and sends no packet in Init or Up.
 use Rattle.bfd_pair.proofs.Common.{◌≡◌, inl, inr, ◌++◌, not, ℕ, Bool, true, false, List, [], refl, ap, ◌∙◌, Option, None, Some, Result, Ok}
 use Rattle.bfd_pair.proofs.Common.{Err, if◌then◌else◌, not-true, Arrival, Control, State, Init, Up, Test, SeqState, fields_of}
-use Rattle.bfd_pair.proofs.Common.{is_init_or_up, Cmd, Config, Out, Mark, Vars, is_admin_down, is_up, Course, course, changes, sends, told}
+use Rattle.bfd_pair.proofs.Common.{is_init_or_up, Cmd, Config, Out, Mark, Vars, is_admin_down, is_up, Course, course, changes, sends}
+use Rattle.bfd_pair.proofs.Common.{changed_between}
 use Rattle.bfd_pair.proofs.Common.{transmits, packet_bytes, packet_of, SessionConfig, Pair, Packet, Command, Running, Flow, begun, settled}
 use Rattle.bfd_pair.proofs.Common.{acted, finished, step, step_from, stepped_flow, tick, tick_from, ticked_flow, next, emits, tick_next}
 use Rattle.bfd_pair.proofs.Common.{tick_emits, reply, answer_of, answer_to_packet, packets_among, renewed_state, Echo, Answer, Handled}
@@ -16,7 +17,7 @@ use Rattle.bfd_p2p.specs.Receive as receiving
 use Rattle.bfd_p2p.specs.Receive.{is_single}
 use Rattle.bfd_session.specs.Echoing.{echoing, settles_echo}
 use Rattle.bfd_pair.proofs.Points.{IsPoint}
-use Rattle.bfd_pair.proofs.Packets.{Each, each_append, packets-append, told_packets}
+use Rattle.bfd_pair.proofs.Packets.{Each, each_append, packets-append, reported_packets}
 use Rattle.bfd_pair.proofs.Rules.{Goes, settle_keeps, commanded_keeps, finish_keeps, kept_keeps}
 
 -- the packet isn't in Init or Up
@@ -53,7 +54,7 @@ cold_goes : (discr : ℕ) (v : Vars) (s : Course) → Goes cold_state s.vars v �
 unfolding changes
 cold_goes discr v s to h = record {
   state = cold_to s.vars v h.state to;
-  packets = put_cold s.outs (told discr s.vars v) h.packets (rw (told_packets discr s.vars v) tt);
+  packets = put_cold s.outs (changed_between discr s.vars v) h.packets (rw (reported_packets discr s.vars v) tt);
 }
 
 cold_puts : (c : Config) (poll fin : Bool) (s : Course) → Cold s → Cold (transmits c poll fin s)

@@ -15,7 +15,7 @@ pub use Rattle.bfd_packet.specs.declared.control.State.{State}
 pub use Rattle.bfd_packet.specs.declared.control.State.TheVariants.{AdminDown, Down, Init, Up}
 pub use Rattle.bfd_packet.specs.declared.discard.Test.{Test}
 pub use Rattle.bfd_packet.specs.declared.keys.SeqState.{SeqState}
-pub use Rattle.bfd_pair.specs.Handshake.{Heard, IsHandshake, is_up_after, sent_by_then, tells_up}
+pub use Rattle.bfd_pair.specs.Handshake.{Heard, IsHandshake, is_up_after, sent_by_then, reports_up}
 pub use Rattle.bfd_pair.specs.Inside.{IsPair, IsPeer, Pairing, both_of, by_way, pairing_of, seen}
 pub use Rattle.bfd_pair.specs.Run.{Both, End, Move, arrival_to, arrives, both_after, comes, given_packet, items_of, judged_move}
 pub use Rattle.bfd_pair.specs.Run.{opened_side, other, own_move, packet_at, packets_among, screened, side_moves, side_of, ticking, turn}
@@ -25,7 +25,7 @@ pub use Rattle.bfd_pair.specs.declared.event.PairEvent.TheVariants.{Give, Order,
 pub use Rattle.bfd_pair.specs.declared.event.Side.{Side}
 pub use Rattle.bfd_pair.specs.declared.event.Side.TheVariants.{Left, Right}
 pub use Rattle.bfd_pair.specs.declared.peer.Peer.{Peer}
-pub use Rattle.bfd_rules.specs.EventFrame.{Course, based, course, drawn, enters, is_untold, tells, told}
+pub use Rattle.bfd_rules.specs.EventFrame.{Course, based, course, drawn, enters, is_unannounced, announces, changed_between}
 unfoldable pub use Rattle.bfd_rules.specs.EventFrame.{changes, redrawn, sends}
 pub use Rattle.bfd_rules.specs.Quantities.{deadline, is_admin_down, is_idle, is_up, may_send, same_state, seq_deadline}
 pub use Rattle.bfd_rules.specs.declared.commands.Cmd.{Cmd}

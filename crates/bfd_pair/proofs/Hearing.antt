@@ -59,7 +59,7 @@ heard_now left right past le h = record {
 }
 
 -- the invariant
-pub record Told (left right : SessionConfig) (side : Side) (past : List PairEvent) (e : End) : Type 0 where
+pub record Reported (left right : SessionConfig) (side : Side) (past : List PairEvent) (e : End) : Type 0 where
   pub state : is_init_or_up e.session.vars.state ≡ true → HeardBy left right side past (length e.sent)
   pub packets : (k : ℕ) (bytes : List ℕ) → slice_get e.sent k ≡ Some bytes → is_init_or_up (fields_of bytes).state ≡ true
       → HeardBy left right side past k
@@ -75,7 +75,7 @@ more_sent {e} g =
 
 -- a packet that was sent before the event, or in it
 packet_then : {left right : SessionConfig} {side : Side} {past : List PairEvent} (event : PairEvent) {e e2 : End}
-    → Told left right side past e → (g : Grows e e2)
+    → Reported left right side past e → (g : Grows e e2)
     → ((k : ℕ) (bytes : List ℕ) → Later e.sent g.more k bytes → is_init_or_up (fields_of bytes).state ≡ true
     → HeardBy left right side (past ++ event ∷ []) k)
     → (k : ℕ) (bytes : List ℕ) → slice_get e2.sent k ≡ Some bytes → is_init_or_up (fields_of bytes).state ≡ true
@@ -87,31 +87,32 @@ packet_then event {e} t g now k bytes there warm =
     ]
 
 -- a side that had heard the other has heard it
-told_warm : {left right : SessionConfig} {side : Side} {past : List PairEvent} (event : PairEvent) {e e2 : End}
-    → Told left right side past e → Grows e e2 → ((n : ℕ) → length e.sent ≤ n → HeardBy left right side (past ++ event ∷ []) n)
-    → Told left right side (past ++ event ∷ []) e2
-told_warm event {e2} t g heard = record {
+reported_warm : {left right : SessionConfig} {side : Side} {past : List PairEvent} (event : PairEvent) {e e2 : End}
+    → Reported left right side past e → Grows e e2 → ((n : ℕ) → length e.sent ≤ n → HeardBy left right side (past ++ event ∷ []) n)
+    → Reported left right side (past ++ event ∷ []) e2
+reported_warm event {e2} t g heard = record {
   state = λ warm. heard (length e2.sent) (more_sent g);
   packets = packet_then event t g (λ k bytes later warm. heard k later.after);
 }
 
-told_quiet : {left right : SessionConfig} {side : Side} {past : List PairEvent} (event : PairEvent) {e e2 : End}
-    → Told left right side past e → Quiet e e2 → Told left right side (past ++ event ∷ []) e2
-told_quiet event {e} t q = elim (either (is_init_or_up e.session.vars.state)) [
+reported_quiet : {left right : SessionConfig} {side : Side} {past : List PairEvent} (event : PairEvent) {e e2 : End}
+    → Reported left right side past e → Quiet e e2 → Reported left right side (past ++ event ∷ []) e2
+reported_quiet event {e} t q = elim (either (is_init_or_up e.session.vars.state)) [
   | inl low ↦ record {
     state = λ warm. absurd (both_ways _ (q.state low) warm);
     packets = packet_then event t q.grows
         (λ k bytes later warm. absurd (both_ways _ (each_at IsCold q.grows.more later.place (q.packets low) later.there) warm));
   }
-  | inr warm ↦ told_warm event t q.grows (λ n le. heard_still event le (t.state warm))
+  | inr warm ↦ reported_warm event t q.grows (λ n le. heard_still event le (t.state warm))
 ]
 
-told_step : (left right : SessionConfig) (side : Side) (past : List PairEvent) (event : PairEvent)
-    → IsPoint (side_of side (pair_run left right past)).session.config → Told left right side past (side_of side (pair_run left right past))
-    → Told left right side (past ++ event ∷ []) (side_of side (turn event (pair_run left right past)).both)
-told_step left right side past event p t = elim (hears_or_quiet (pair_run left right past) event side p) [
-  | inl quiet ↦ told_quiet event t quiet
-  | inr hears ↦ told_warm event t hears.grows (λ n le. heard_now left right past le hears)
+reported_step : (left right : SessionConfig) (side : Side) (past : List PairEvent) (event : PairEvent)
+    → IsPoint (side_of side (pair_run left right past)).session.config
+    → Reported left right side past (side_of side (pair_run left right past))
+    → Reported left right side (past ++ event ∷ []) (side_of side (turn event (pair_run left right past)).both)
+reported_step left right side past event p t = elim (hears_or_quiet (pair_run left right past) event side p) [
+  | inl quiet ↦ reported_quiet event t quiet
+  | inr hears ↦ reported_warm event t hears.grows (λ n le. heard_now left right past le hears)
 ]
 
 started_cold : (config : SessionConfig) → IsPoint config → is_init_or_up (started config).vars.state ≡ false
@@ -120,19 +121,19 @@ started_cold (Pair c) p = ap is_init_or_up (drawn_state c.active _ _)
 started_cold config p = absurd p
 
 module _ (left right : SessionConfig) (l : IsPoint left) (r : IsPoint right) where
-  told_start : (side : Side) → Told left right side [] (side_of side (pair_run left right []))
+  reported_start : (side : Side) → Reported left right side [] (side_of side (pair_run left right []))
   unfolding pair_run
-  told_start Left = record { state = λ warm. absurd (both_ways _ (started_cold left l) warm); packets = λ k bytes there warm. cc }
-  told_start Right = record { state = λ warm. absurd (both_ways _ (started_cold right r) warm); packets = λ k bytes there warm. cc }
+  reported_start Left = record { state = λ warm. absurd (both_ways _ (started_cold left l) warm); packets = λ k bytes there warm. cc }
+  reported_start Right = record { state = λ warm. absurd (both_ways _ (started_cold right r) warm); packets = λ k bytes there warm. cc }
 
-  told_on : (side : Side) (past events : List PairEvent) → Told left right side past (side_of side (pair_run left right past))
-      → Told left right side (past ++ events) (side_of side (pair_run left right (past ++ events)))
-  told_on side past [] t = rw (append-nil past) t
-  told_on side past (event ∷ events) t = rw (← append_assoc past (event ∷ []) events) (told_on side (past ++ event ∷ []) events
-      (rw (run_more left right past event) (told_step left right side past event (run_point left right l r past side) t)))
+  reported_on : (side : Side) (past events : List PairEvent) → Reported left right side past (side_of side (pair_run left right past))
+      → Reported left right side (past ++ events) (side_of side (pair_run left right (past ++ events)))
+  reported_on side past [] t = rw (append-nil past) t
+  reported_on side past (event ∷ events) t = rw (← append_assoc past (event ∷ []) events) (reported_on side (past ++ event ∷ []) events
+      (rw (run_more left right past event) (reported_step left right side past event (run_point left right l r past side) t)))
 
-  told : (side : Side) (past : List PairEvent) → Told left right side past (side_of side (pair_run left right past))
-  told side past = told_on side [] past (told_start side)
+  reported : (side : Side) (past : List PairEvent) → Reported left right side past (side_of side (pair_run left right past))
+  reported side past = reported_on side [] past (reported_start side)
 
 -- where the packet of a number stands
 pub record At (number : ℕ) (sent : List (List ℕ)) (bytes : List ℕ) : Type 0 where
@@ -156,5 +157,5 @@ pub packet_heard : (left right : SessionConfig) → IsPoint left → IsPoint rig
     → (heard : Heard left right side past) × (sent_by_then left right side past heard < number)
 packet_heard left right l r side past number {bytes} found warm =
     let at = place_by number _ _ refl found in
-    let h = (told left right l r side past).packets at.place bytes at.there warm in
+    let h = (reported left right l r side past).packets at.place bytes at.there warm in
     (h.heard, (omega arith))

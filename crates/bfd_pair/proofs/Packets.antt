@@ -1,6 +1,7 @@
 -- The packets among outputs, and facts of each of them.
 use Rattle.bfd_pair.proofs.Common.{◌≡◌, ◌≤◌, ◌++◌, ◌⊎◌, inl, inr, ℕ, zero, suc, Bool, true, false, List, [], ◌∷◌, length, refl, ap, subst}
-use Rattle.bfd_pair.proofs.Common.{arith, Some, if◌then◌else◌, slice_get, unwrap_or, Out, Vars, same_state, told, packets_among, Changed}
+use Rattle.bfd_pair.proofs.Common.{arith, Some, if◌then◌else◌, slice_get, unwrap_or, Out, Vars, same_state, changed_between, packets_among}
+use Rattle.bfd_pair.proofs.Common.{Changed}
 use Rattle.bfd_pair.proofs.Common.{Sent}
 
 pub packets-append : (xs ys : List Out) → packets_among (xs ++ ys) ≡ packets_among xs ++ packets_among ys
@@ -14,8 +15,8 @@ packets_few (Changed discr old new diag ∷ items) = omega (arith, packets_few i
 packets_few (Sent discr datagram ∷ items) = omega (arith, packets_few items)
 
 -- a change of state is no packet
-pub told_packets : (discr : ℕ) (v w : Vars) → packets_among (told discr v w) ≡ []
-told_packets discr v w = by_same (same_state v.state w.state)
+pub reported_packets : (discr : ℕ) (v w : Vars) → packets_among (changed_between discr v w) ≡ []
+reported_packets discr v w = by_same (same_state v.state w.state)
   where
     by_same : (same : Bool) → packets_among (if same then [] else Changed discr v.state w.state w.diag ∷ []) ≡ []
     by_same true = refl

@@ -1,6 +1,7 @@
 -- An event leaves a pair of what the past, with it, makes.
 use Rattle.bfd_pair.proofs.Common.{◌≡◌, ◌≤◌, ◌++◌, ℕ, true, false, List, [], ◌∷◌, sym, ap, ◌∙◌, arith, greatest_tick, SessionConfig, Side}
-use Rattle.bfd_pair.proofs.Common.{Left, Right, PairEvent, Peer, items_of, opened_side, pair_run, turn, IsHandshake, tells_up, is_up_after}
+use Rattle.bfd_pair.proofs.Common.{Left, Right, PairEvent, Peer, items_of, opened_side, pair_run, turn, IsHandshake, reports_up}
+use Rattle.bfd_pair.proofs.Common.{is_up_after}
 use Rattle.bfd_pair.proofs.Common.{seen, both_of, Pairing, pairing_of, IsPeer, IsPair}
 use Rattle.bfd_pair.proofs.Points.{IsPoint, way_point, turn_config}
 use Rattle.bfd_pair.proofs.Hearing.{run_more}
@@ -34,7 +35,7 @@ module _ (l r l2 r2 : Peer) (last last2 : ℕ) (past past2 : List PairEvent) (ev
   right_point : IsPoint p.right
   right_point = rw (← view) (peer_point pair.right_peer)
 
-  pub handshake_more : (side : Side) → tells_up (items_of side (turn event (pair_run p.left p.right p.past))) ≡ true
+  pub handshake_more : (side : Side) → reports_up (items_of side (turn event (pair_run p.left p.right p.past))) ≡ true
       → IsHandshake p.left p.right side event p.past
   handshake_more side up = handshakes p.left p.right left_point right_point p.past event side up
 

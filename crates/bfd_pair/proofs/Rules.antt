@@ -3,7 +3,8 @@
 -- allowed ones and is reported, and where a packet with the present state is sent.
 use Rattle.bfd_pair.proofs.Common.{◌≡◌, ◌⊎◌, inl, inr, ◌&&◌, ℕ, not, Bool, true, false, refl, ◌∙◌, is_some, if◌then◌else◌, floor_tick}
 use Rattle.bfd_pair.proofs.Common.{Control, State, AdminDown, Down, Init, Up, SeqState, is_init_or_up, Cmd, Config, Mark, Vars, may_send}
-use Rattle.bfd_pair.proofs.Common.{deadline, seq_deadline, is_idle, is_admin_down, Course, course, changes, sends, enters, tells, is_untold}
+use Rattle.bfd_pair.proofs.Common.{deadline, seq_deadline, is_idle, is_admin_down, Course, course, changes, sends, enters, announces}
+use Rattle.bfd_pair.proofs.Common.{is_unannounced}
 use Rattle.bfd_pair.proofs.Common.{based, drawn, redrawn, renewed_state, drawn_state, transmits}
 use Rattle.bfd_num.specs.Due.{has_come}
 use Rattle.bfd_rules.specs.declared.commands.Cmd.TheVariants.{Disable, Enable, Reset}
@@ -59,7 +60,7 @@ module _ (P : Course → Type 0) (ok : State → Bool)
   periodic_packet_keeps : (c : Config) (eff : ℕ) {s : Course} → P s → P (settling.periodic_packet c eff s)
   unfolding settling.periodic_packet transmits sends
   periodic_packet_keeps c eff {s} h =
-      renews_keeps eff _ refl (still (transmits c (not (is_idle s.vars.poll)) false s) s.vars (tells s.vars s.mark) refl
+      renews_keeps eff _ refl (still (transmits c (not (is_idle s.vars.poll)) false s) s.vars (announces s.vars s.mark) refl
       (puts c (not (is_idle s.vars.poll)) false s h))
 
   periodic_keeps : (c : Config) (limit eff : ℕ) {s : Course} → P s → P (settling.periodic c limit eff s)
@@ -91,7 +92,7 @@ module _ (P : Course → Type 0) (ok : State → Bool)
 
   extra_keeps : (c : Config) (eff : ℕ) {s : Course} → P s → P (finishing.extra c eff s)
   unfolding finishing.extra
-  extra_keeps c eff {s} h = either (is_untold c.active s.mark s.vars) (based_keeps eff (puts c false false s h)) h
+  extra_keeps c eff {s} h = either (is_unannounced c.active s.mark s.vars) (based_keeps eff (puts c false false s h)) h
 
   pub finish_keeps : (c : Config) (eff : ℕ) (s : Course) → P s → P (finishing.finish c eff s)
   unfolding finishing.finish redrawn

@@ -15,10 +15,10 @@ use Rattle.bfd_pair.specs.declared.event.PairAnswer.TheVariants.{Did}
 use Rattle.bfd_pair.specs.Run.{other, side_of, packet_at, pair_run, turn}
 
 -- one of these outputs reports a change to Up
-abbrev pub tells_up : List Out → Bool
-tells_up [] = false
-tells_up (Changed discr old new diag ∷ items) = is_up new || tells_up items
-tells_up (Sent discr datagram ∷ items) = tells_up items
+abbrev pub reports_up : List Out → Bool
+reports_up [] = false
+reports_up (Changed discr old new diag ∷ items) = is_up new || reports_up items
+reports_up (Sent discr datagram ∷ items) = reports_up items
 
 -- the side's state is Up after these events
 abbrev pub is_up_after : SessionConfig → SessionConfig → Side → List PairEvent → Bool

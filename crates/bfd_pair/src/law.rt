@@ -5,7 +5,7 @@ ghost use Rattle.bfd_session.specs.declared.event.SessionConfig.TheVariants.{Pai
 ghost use Rattle.bfd_pair.specs.declared.event.Side.{Side};
 ghost use Rattle.bfd_pair.specs.declared.event.PairEvent.{PairEvent};
 ghost use Rattle.bfd_pair.specs.Run.{items_of, pair_run, turn};
-ghost use Rattle.bfd_pair.specs.Handshake.{IsHandshake, tells_up, is_up_after};
+ghost use Rattle.bfd_pair.specs.Handshake.{IsHandshake, reports_up, is_up_after};
 
 /// A law, and no work: whatever two point-to-point sessions and whatever has happened to them, where a side emits a change to Up, the
 /// event gives it a packet of the other side in Init or Up with its own discriminator as Your Discriminator; before, the other side handled
@@ -14,7 +14,7 @@ ghost use Rattle.bfd_pair.specs.Handshake.{IsHandshake, tells_up, is_up_after};
 #[tactic(auto, using(crate::proofs::Handshakes::pair_handshakes))]
 pub fn handshake_law()
     ensures { (left right : Config) (past : List PairEvent) (event : PairEvent) (side : Side)
-        → tells_up (items_of side (turn event (pair_run (PairOf left) (PairOf right) past))) ≡ true
+        → reports_up (items_of side (turn event (pair_run (PairOf left) (PairOf right) past))) ≡ true
         → IsHandshake (PairOf left) (PairOf right) side event past }
 {}
 

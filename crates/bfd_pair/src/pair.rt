@@ -8,7 +8,7 @@ ghost use Rattle.bfd_pair.specs.declared.event.Side.{Side};
 ghost use Rattle.bfd_pair.specs.Events as events;
 ghost use Rattle.bfd_pair.specs.Run.{Both, PairTurn, side_of, items_of, pair_run, turn};
 ghost use Rattle.bfd_pair.specs.Run as run;
-ghost use Rattle.bfd_pair.specs.Handshake.{IsHandshake, tells_up, is_up_after};
+ghost use Rattle.bfd_pair.specs.Handshake.{IsHandshake, reports_up, is_up_after};
 ghost use Rattle.bfd_pair.specs.Inside.{seen, both_of, IsPeer};
 
 use crate::peer::{Peer, give, open, own_move, tick};
@@ -194,7 +194,7 @@ impl Pair {
         ensures spare { outs.old.spare ≤ outs.new.spare + 10 }
         ensures room { outs.new.room ≡ outs.old.room }
         ensures handshake { OnOk result ((side : Side)
-            → tells_up (items_of side (turn event (pair_run self.old.left self.old.right self.old.past))) ≡ true
+            → reports_up (items_of side (turn event (pair_run self.old.left self.old.right self.old.past))) ≡ true
             → IsHandshake self.old.left self.old.right side event self.old.past) }
         ensures rises { OnOk result ((side : Side) → is_up_after self.old.left self.old.right side self.old.past ≡ false
             → is_up_after self.new.left self.new.right side self.new.past ≡ true

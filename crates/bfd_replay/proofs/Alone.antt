@@ -75,7 +75,7 @@ pub sole_gathers : {parts : List (List Piece)} {s : ℕ} {part : List Piece} {no
     → HasAll (map first_key parts) s → part ≡ get_or parts s part
     → none ≡ [] → text ≡ none ++ texts part → sent ≡ sum_by (λ p. p.txs) part → fell ≡ sum_by (λ p. p.drops) part
     → Gathers parts text sent fell
-sole_gathers all is nothing told sent fell = λ dealt h. (cc (sole_texts h all is), sent ∙ sole_txs h all is, fell ∙ sole_drops h all is)
+sole_gathers all is nothing reported sent fell = λ dealt h. (cc (sole_texts h all is), sent ∙ sole_txs h all is, fell ∙ sole_drops h all is)
 
 -- where one part has all of them
 pub is_all : (parts : List (List Piece)) {one : Option ℕ} {s : ℕ} → one ≡ Some s → IfSome one (λ r. HasAll (map first_key parts) r)

@@ -2,7 +2,8 @@
 use Rattle.bfd_replay.proofs.WorkerCommon.{◌≡◌, ◌≢◌, inl, inr, ◌<◌, ◌≤◌, ◌+◌, ◌++◌, ◌∙◌, ◌∷◌, ℕ, [], List, length, sym, ap, refl}
 use Rattle.bfd_replay.proofs.WorkerCommon.{append_assoc, arith, length-append, slice_index_or, get_or_append_left, get_or-append_seam}
 use Rattle.bfd_replay.proofs.WorkerCommon.{cases_lt, dite, ℕ_discrete, EngineFault, Shards, Knows, IsOf, AllThere, seen_at, taken_at}
-use Rattle.bfd_replay.proofs.WorkerCommon.{Numbered, Piece, HasDoneAt, HasFinished, HasLeft, HasStopped, HasTold, HasUsedAt, IsElsewhere}
+use Rattle.bfd_replay.proofs.WorkerCommon.{Numbered, Piece, HasDoneAt, HasFinished, HasLeft, HasStopped, HasReported, HasUsedAt}
+use Rattle.bfd_replay.proofs.WorkerCommon.{IsElsewhere}
 use Rattle.bfd_replay.proofs.WorkerCommon.{IsIdle, IsTurnRefused, IsStopAt}
 use Rattle.bfd_replay.proofs.Soles.{done_more, stopped_at}
 
@@ -24,13 +25,13 @@ no_events (x ∷ done) rest e all none = absurd (cc)
 pub queue_more : {engine : Shards} {shard : ℕ} {queue left rest : List Numbered} {e : Numbered} {k l m : Knows} {part part2 : List Piece}
     → left ≡ e ∷ rest
     → InQueue engine shard queue left k l part → IsElsewhere l m shard → taken_at m shard ≤ taken_at l shard + 1
-    → HasTold engine shard e l m part part2
+    → HasReported engine shard e l m part part2
     → InQueue engine shard queue rest k m part2
-queue_more {rest} {e} split q moved taken told = record {
+queue_more {rest} {e} split q moved taken reported = record {
   elsewhere = elsewhere_more q.elsewhere moved;
   done = q.done ++ e ∷ [];
   all = cc (append_assoc q.done (e ∷ []) rest);
-  did = done_more told moved.number taken q.did;
+  did = done_more reported moved.number taken q.did;
   idle = λ none. absurd (no_events q.done [] e refl none);
 }
 

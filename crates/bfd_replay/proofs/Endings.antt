@@ -6,7 +6,7 @@ use Rattle.bfd_replay.proofs.WorkerCommon.{get_or_from_slice_get, eq-eqb, dite, 
 use Rattle.bfd_replay.proofs.WorkerCommon.{Shards, Knows, seen_at, met_word, made_at, kept_at, mine, EachJoined, IsClosed, AreClosed}
 use Rattle.bfd_replay.proofs.WorkerCommon.{Numbered, Piece, AreMet, IsWorkerReady, HasUsedAt, IsSole, IsStopAt, AllJobsJoined, AreJobs}
 use Rattle.bfd_replay.proofs.WorkerCommon.{AreOwn, HasEnded, HasWorkedOn, IsFreshAt, IsJoining, IsNewJob, Work, number_of, own_queue, Entry}
-use Rattle.bfd_replay.proofs.WorkerCommon.{Memory, Full, Spent, by, AreStates, AreTold, IsDoneJob, IsFine, IsState, HasToldShards}
+use Rattle.bfd_replay.proofs.WorkerCommon.{Memory, Full, Spent, by, AreStates, AreReported, IsDoneJob, IsFine, IsState, HasReportedShards}
 use Rattle.std.proofs.lemmas.Bool.Decides.{nat_tests}
 use Rattle.std.proofs.Math.Nat.{mod-lt}
 use Rattle.bfd_turn.specs.Plays.{AllKept}
@@ -199,18 +199,19 @@ pub record AllClosed (engine : Shards) (queues : List (List Numbered)) (workers 
   pub short_queues : (s : ℕ) → length (slice_index_or queues s []) ≤ engine.limit
   pub small : engine.limit ≤ 200000
 
-told_at : (engine : Shards) (queues : List (List Numbered)) (workers : ℕ) (k l : Knows) (works : List Work) (shards : List Shard) (i : ℕ)
+reported_at : (engine : Shards) (queues : List (List Numbered)) (workers : ℕ) (k l : Knows) (works : List Work) (shards : List Shard)
+    (i : ℕ)
     (v : Work) → AllClosed engine queues workers k l works shards
-    → slice_get works i ≡ Some v → (told_is : Result (List (List Piece)) EngineFault) → v.told ≡ told_is
-    → HasToldShards engine queues workers i told_is
-told_at engine queues workers k l works shards i v c e (Err fault) is = tt
-told_at engine queues workers k l works shards i v c e (Ok parts) is =
+    → slice_get works i ≡ Some v → (reported_is : Result (List (List Piece)) EngineFault) → v.reported ≡ reported_is
+    → HasReportedShards engine queues workers i reported_is
+reported_at engine queues workers k l works shards i v c e (Err fault) is = tt
+reported_at engine queues workers k l works shards i v c e (Ok parts) is =
     let d = c.atend.each i v e in
     let f = subst (HasEnded engine d.mine v.pass) is d.ended in (
       f.long,
       λ s h same.
           cc (
-            (f.done s h).told_is (sole_seen c.atend h (closed_at _ c.closed h).1 e (sym same)),
+            (f.done s h).reported_is (sole_seen c.atend h (closed_at _ c.closed h).1 e (sym same)),
             own_at s d.own (omega (arith, h, c.queues_long)) same,
           ),
     )
@@ -261,7 +262,7 @@ fine_by i (Spent at word) c e h stop = never_spent i c e h stop
 
 fine_at : {engine : Shards} {queues : List (List Numbered)} {workers : ℕ} {k l : Knows} {works : List Work} {shards : List Shard}
     (i : ℕ) {v : Work} → AllClosed engine queues workers k l works shards
-    → slice_get works i ≡ Some v → (told_is : Result (List (List Piece)) EngineFault) → v.told ≡ told_is → IsFine told_is
+    → slice_get works i ≡ Some v → (reported_is : Result (List (List Piece)) EngineFault) → v.reported ≡ reported_is → IsFine reported_is
 fine_at i c e (Ok parts) is = tt
 fine_at {engine} i {v} c e (Err fault) is =
     let d = c.atend.each i v e in
@@ -269,7 +270,7 @@ fine_at {engine} i {v} c e (Err fault) is =
     fine_by i fault c e stop.inside (rw (← d.own.each stop.shard (omega (arith, c.queues_long, stop.inside))) stop.stop)
 
 work_at : (i : ℕ) (end : Result (List (List Piece)) EngineFault) (ws : List Work) → i < length ws → (v : Work) × (slice_get ws i ≡ Some v)
-    × (get_or (map (λ (w : Work). w.told) ws) i end ≡ v.told)
+    × (get_or (map (λ (w : Work). w.reported) ws) i end ≡ v.reported)
 work_at i end [] h = absurd (omega (arith, h))
 work_at zero end (w ∷ ws) h = (w, refl, refl)
 work_at (suc i) end (w ∷ ws) h = let r = work_at i end ws (omega (arith, h)) in (r.0, r.1, r.2)
@@ -278,42 +279,47 @@ work_at (suc i) end (w ∷ ws) h = let r = work_at i end ws (omega (arith, h)) i
 pub record IsEnd (engine : Shards) (queues : List (List Numbered)) (workers i : ℕ) (end : Result (List (List Piece)) EngineFault) : Type 0
   where
     pub fine : IsFine end
-    pub told : HasToldShards engine queues workers i end
+    pub reported : HasReportedShards engine queues workers i end
 
-ends : {engine : Shards} {queues : List (List Numbered)} {workers : ℕ} {k l : Knows} {works : List Work} {shards : List Shard} {tolds : List
+ends : {engine : Shards} {queues : List (List Numbered)} {workers : ℕ} {k l : Knows} {works : List Work} {shards : List
+    Shard} {worker_parts : List
     (Result (List (List Piece)) EngineFault)} → AllClosed engine queues workers k l works shards
-    → tolds ≡ map (λ w. w.told) works → (i : ℕ) {end : Result (List (List Piece)) EngineFault} → slice_get tolds i ≡ Some end
+    → worker_parts ≡ map (λ w. w.reported) works → (i : ℕ) {end : Result (List (List Piece)) EngineFault}
+    → slice_get worker_parts i ≡ Some end
     → IsEnd engine queues workers i end
-ends {engine} {queues} {workers} {k} {l} {works} {shards} {tolds} c are i {end} e =
-    let inside : i < length works = (let d = length-map works (λ w. w.told) in
-    omega (arith, slice_get_within tolds i end e, ap length are, d)) in
+ends {engine} {queues} {workers} {k} {l} {works} {shards} {worker_parts} c are i {end} e =
+    let inside : i < length works = (let d = length-map works (λ w. w.reported) in
+    omega (arith, slice_get_within worker_parts i end e, ap length are, d)) in
     let v = (work_at i end) works inside in
-    let is : v.0.told ≡ end = cc (get_or_from_slice_get tolds i end end e) in
-    record { fine = fine_at i c v.1 end is; told = told_at _ _ _ k l _ _ i v.0 c v.1 end is }
+    let is : v.0.reported ≡ end = cc (get_or_from_slice_get worker_parts i end end e) in
+    record { fine = fine_at i c v.1 end is; reported = reported_at _ _ _ k l _ _ i v.0 c v.1 end is }
 
 work_there : (i : ℕ) (ws : List Work) → i < length ws → (v : Work) × (slice_get ws i ≡ Some v)
 work_there i [] h = absurd (omega (arith, h))
 work_there zero (w ∷ ws) h = (w, refl)
 work_there (suc i) (w ∷ ws) h = work_there i ws (omega (arith, h))
 
-all_told : (i : ℕ) (v : Work) (works : List Work) (tolds : List (List (List Piece))) → map (λ (w : Work). w.told) works ≡ map Ok tolds
-    → slice_get works i ≡ Some v → v.told ≡ Ok (get_or tolds i [])
-all_told i v [] tolds is e = absurd (omega (arith, slice_get_within [] i v e))
-all_told i v (w ∷ works) [] is e = absurd (cc)
-all_told zero v (w ∷ works) (t ∷ tolds) is e = let a : w ≡ v = cc in ap (λ x. x.told) (sym a) ∙ (let b : w.told ≡ Ok t = cc in b)
-all_told (suc i) v (w ∷ works) (t ∷ tolds) is e = all_told i v works tolds (cc) e
+all_parts : (i : ℕ) (v : Work) (works : List Work) (worker_parts : List (List (List Piece)))
+    → map (λ (w : Work). w.reported) works ≡ map Ok worker_parts
+    → slice_get works i ≡ Some v → v.reported ≡ Ok (get_or worker_parts i [])
+all_parts i v [] worker_parts is e = absurd (omega (arith, slice_get_within [] i v e))
+all_parts i v (w ∷ works) [] is e = absurd (cc)
+all_parts zero v (w ∷ works) (t ∷ worker_parts) is e = let a : w ≡ v = cc in
+    ap (λ x. x.reported) (sym a) ∙ (let b : w.reported ≡ Ok t = cc in b)
+all_parts (suc i) v (w ∷ works) (t ∷ worker_parts) is e = all_parts i v works worker_parts (cc) e
 
 state_at : {engine : Shards} {queues : List (List Numbered)} {workers : ℕ} {k l : Knows} {works : List Work} {shards : List Shard}
-    (tolds : List (List (List Piece))) (s : ℕ) {shard : Shard}
-    → AllClosed engine queues workers k l works shards → map (λ (w : Work). w.told) works ≡ map Ok tolds → slice_get shards s ≡ Some shard
+    (worker_parts : List (List (List Piece))) (s : ℕ) {shard : Shard}
+    → AllClosed engine queues workers k l works shards → map (λ (w : Work). w.reported) works ≡ map Ok worker_parts
+    → slice_get shards s ≡ Some shard
     → IsState engine queues workers s shard
-state_at {engine} {workers} {works} {shards} tolds s {shard} c all_ok e =
+state_at {engine} {workers} {works} {shards} worker_parts s {shard} c all_ok e =
     let h : s < length engine.locks = omega (arith, slice_get_within shards s shard e, c.closed.long) in
     let closed = c.closed.each s shard e in
     let some = work_there (s % workers) works (omega (arith, mod-lt s c.atend.some, c.atend.long)) in
     let v = some.0 in
     let d = c.atend.each (s % workers) v some.1 in
-    let f = subst (HasEnded engine d.mine v.pass) (all_told (s % workers) v works tolds all_ok some.1) d.ended in
+    let f = subst (HasEnded engine d.mine v.pass) (all_parts (s % workers) v works worker_parts all_ok some.1) d.ended in
     record {
       configs = closed.configs;
       journal = cc (
@@ -325,11 +331,11 @@ state_at {engine} {workers} {works} {shards} tolds s {shard} c all_ok e =
 
 -- the closed shards' states
 pub states : {engine : Shards} {queues : List (List Numbered)} {workers : ℕ} {k l : Knows} {works : List Work} {shards : List Shard}
-    (tolds : List (List (List Piece))) → AllClosed engine queues workers k l works shards
-    → map (λ w. w.told) works ≡ map Ok tolds → AreStates engine queues workers shards
-states tolds c all_ok = record {
+    (worker_parts : List (List (List Piece))) → AllClosed engine queues workers k l works shards
+    → map (λ w. w.reported) works ≡ map Ok worker_parts → AreStates engine queues workers shards
+states worker_parts c all_ok = record {
   long = c.closed.long;
-  each = λ s shard e. state_at tolds s c all_ok e;
+  each = λ s shard e. state_at worker_parts s c all_ok e;
 }
 
 -- a new job is ready to be worked on
@@ -360,16 +366,16 @@ all_ready engine queues workers at l works some few long met jobs i d h =
     }
 
 -- the parts of all workers
-pub told_all : {engine : Shards} {queues : List (List Numbered)} {workers : ℕ} {k l : Knows} {works : List Work} {shards : List Shard}
+pub reported_all : {engine : Shards} {queues : List (List Numbered)} {workers : ℕ} {k l : Knows} {works : List Work} {shards : List Shard}
     (all : List (List (List Piece))) → AllClosed engine queues workers k l works shards
-    → map (λ w. w.told) works ≡ map Ok all → AreTold engine queues workers all
-told_all {engine} {queues} {workers} {k} {l} {works} {shards} all c all_ok =
-    let many : length all ≡ workers = (let b = length-map works (λ w. w.told) in
+    → map (λ w. w.reported) works ≡ map Ok all → AreReported engine queues workers all
+reported_all {engine} {queues} {workers} {k} {l} {works} {shards} all c all_ok =
+    let many : length all ≡ workers = (let b = length-map works (λ w. w.reported) in
     let d = length-map all (λ x. let r : Result (List (List Piece)) EngineFault = Ok x in r) in
     omega (arith, ap length all_ok, b, d, c.atend.long)) in
-    let worker : (i : ℕ) → i < workers → HasToldShards engine queues workers i (Ok (get_or all i [])) = λ i h.
+    let worker : (i : ℕ) → i < workers → HasReportedShards engine queues workers i (Ok (get_or all i [])) = λ i h.
     (let v = work_there i works (omega (arith, h, c.atend.long)) in
-    told_at _ _ _ k l _ _ i v.0 c v.1 _ (all_told i v.0 works all all_ok v.1)) in
+    reported_at _ _ _ k l _ _ i v.0 c v.1 _ (all_parts i v.0 works all all_ok v.1)) in
     record {
       long = many;
       wide = λ i h. (worker i h).0;
@@ -394,6 +400,7 @@ all_closed some few long jobs same worked joined closed short small =
     }
 
 pub fine_ends : {engine : Shards} {queues : List (List Numbered)} {workers : ℕ} {k l : Knows} {works : List Work} {shards : List
-    Shard} {tolds : List (Result (List (List Piece)) EngineFault)} → AllClosed engine queues workers k l works shards
-    → tolds ≡ map (λ w. w.told) works → (i : ℕ) (end : Result (List (List Piece)) EngineFault) → slice_get tolds i ≡ Some end → IsFine end
+    Shard} {worker_parts : List (Result (List (List Piece)) EngineFault)} → AllClosed engine queues workers k l works shards
+    → worker_parts ≡ map (λ w. w.reported) works → (i : ℕ) (end : Result (List (List Piece)) EngineFault)
+    → slice_get worker_parts i ≡ Some end → IsFine end
 fine_ends c are i end e = (ends c are i e).fine

@@ -1,7 +1,8 @@
 -- One more event is reported.
 use Rattle.bfd_replay.proofs.StreamCommon.{◌≡◌, ◌+◌, ◌++◌, ◌∙◌, ℕ, List, [], ◌∷◌, length, Option, ap, refl, sym, subst, append_assoc}
 use Rattle.bfd_replay.proofs.StreamCommon.{append-nil, arith, Appends, Line, Outcome, done_line, dropped, event_lines, lines_from}
-use Rattle.bfd_replay.proofs.StreamCommon.{packets_sent, report, Happening, happening, happenings, happening_outcomes, ToldUpTo, Telling}
+use Rattle.bfd_replay.proofs.StreamCommon.{packets_sent, report, Happening, happening, happenings, happening_outcomes, ReportedUpTo}
+use Rattle.bfd_replay.proofs.StreamCommon.{PendingLines}
 use Rattle.bfd_replay.proofs.StreamCommon.{TookFront, TookUpTo, front_of_longer, none_taken, took_front, took_of_longer, took_on, took_rest}
 use Rattle.std.specs.Prelude.{◌<◌, ◌≤◌, sum_by}
 use Rattle.bfd_shard.specs.Dealing.{history_of}
@@ -13,28 +14,29 @@ use Rattle.bfd_engine.specs.Engines.{Knows, Shards}
 use Rattle.bfd_engine.specs.Calls.{seen_at}
 use Rattle.bfd_engine.specs.Opening.{IsNewPass}
 use Rattle.bfd_replay.specs.Happenings.{Apart, Among, session_event}
-use Rattle.bfd_replay.specs.declared.stream.telling.Stop.{Stop}
-use Rattle.bfd_replay.specs.declared.stream.telling.Stop.TheVariants.{Refused, Unwritten}
+use Rattle.bfd_replay.specs.declared.stream.pending.Stop.{Stop}
+use Rattle.bfd_replay.specs.declared.stream.pending.Stop.TheVariants.{Refused, Unwritten}
 use Rattle.bfd_replay.specs.Counts.{counts_of}
 use Rattle.bfd_replay.specs.declared.report.counts.Counts.{Counts}
-use Rattle.bfd_replay.specs.Telling.{HasBrought, HasToldEvent, HasToldFront, IsEventStop, IsStop, outcomes_on}
+use Rattle.bfd_replay.specs.PendingLines.{HasBrought, HasReportedEvent, HasReportedFront, IsEventStop, IsStop, outcomes_on}
 use Rattle.bfd_replay.specs.Turning.{AllSole, HasKept, HasSeen, Went, brought, outcome_in}
 use Rattle.bfd_replay.specs.Working.{IsSole, entries_by}
 use Rattle.bfd_replay.proofs.Going.{earlier_sole, entries_both}
 use Rattle.bfd_replay.proofs.OneCaller.{cut_short, history_after, outcome_first, outcomes_none, past_after, past_few}
 
 -- more was reported
-pub told_on : {first next last : Option (List ℕ)} {start told after : Telling} {all some rest : List Outcome}
-    → ToldUpTo first next start told all some → ToldUpTo next last told after some rest → ToldUpTo first last start after all rest
-told_on {first} {next} {last} {start} {told} {after} {all} {some} {rest} so_far now = record {
+pub reported_on : {first next last : Option (List ℕ)} {start reported after : PendingLines} {all some rest : List Outcome}
+    → ReportedUpTo first next start reported all some → ReportedUpTo next last reported after some rest
+    → ReportedUpTo first last start after all rest
+reported_on {first} {next} {last} {start} {reported} {after} {all} {some} {rest} so_far now = record {
   lines = took_on _ next last _ _ _ so_far.lines now.lines;
   events = cc;
   txs = cc;
   drops = cc;
 }
 
-nothing_told : (now : Option (List ℕ)) (told : Telling) (os : List Outcome) → ToldUpTo now now told told os os
-nothing_told now told os = record { lines = none_taken now _; events = refl; txs = refl; drops = refl }
+nothing_reported : (now : Option (List ℕ)) (reported : PendingLines) (os : List Outcome) → ReportedUpTo now now reported reported os os
+nothing_reported now reported os = record { lines = none_taken now _; events = refl; txs = refl; drops = refl }
 
 past_on : (past : List ShardEvent) (h : Happening) (rest : List ShardEvent)
     → past_after past h ++ rest ≡ past ++ cons_option (session_event h) rest
@@ -46,18 +48,18 @@ lines_split : (text : List ℕ) (n : ℕ) (o : Outcome) (os : List Outcome)
     → text ++ lines_from n (o ∷ os) ≡ (text ++ event_lines n o) ++ lines_from (n + 1) os
 lines_split text n o os = cc (append_assoc text (event_lines n o) (lines_from (n + 1) os))
 
-pub event_front : (old new : Option (List ℕ)) (before : Telling) (o : Outcome) (os : List Outcome)
+pub event_front : (old new : Option (List ℕ)) (before : PendingLines) (o : Outcome) (os : List Outcome)
     → TookFront old new (before.text ++ event_lines (before.events + 1) o)
     → TookFront old new (before.text ++ lines_from (before.events + 1) (o ∷ os))
 event_front old new before o os took =
     subst (TookFront old new) (sym (lines_split before.text (before.events + 1) o os))
     (front_of_longer old new _ (lines_from (before.events + 1 + 1) os) took)
 
-pub event_told : (old new : Option (List ℕ)) (before after : Telling) (o : Outcome) → after.events ≡ before.events + 1
+pub event_reported : (old new : Option (List ℕ)) (before after : PendingLines) (o : Outcome) → after.events ≡ before.events + 1
     → after.txs ≡ before.txs + packets_sent o → after.drops ≡ before.drops + dropped o
     → TookUpTo old new (before.text ++ event_lines (before.events + 1) o) after.text → (rest : List Outcome)
-    → ToldUpTo old new before after (o ∷ rest) rest
-event_told old new before after o events txs drops took rest = record {
+    → ReportedUpTo old new before after (o ∷ rest) rest
+event_reported old new before after o events txs drops took rest = record {
   lines = subst (λ t. TookUpTo old new t (after.text ++ lines_from (after.events + 1) rest))
       (sym (lines_split before.text (before.events + 1) o rest))
       (rw events (took_of_longer old new _ after.text (lines_from (before.events + 1 + 1) rest) took));
@@ -67,34 +69,35 @@ event_told old new before after o events txs drops took rest = record {
 }
 
 -- what was reported of a script so far by caller 0, if it is the engine's only one
-pub record IsTelling (engine : Shards) (lines left : List Line) (l : Knows) (old now : Option (List ℕ))
-    (before after : Telling) : Type 0 where
+pub record IsReporting (engine : Shards) (lines left : List Line) (l : Knows) (old now : Option (List ℕ))
+    (before after : PendingLines) : Type 0 where
   pub past : List ShardEvent
   pub short : length past + length left ≤ length lines
   pub whole : past ++ filter_map session_event (happenings engine.configs engine.pool left)
       ≡ filter_map session_event (happenings engine.configs engine.pool lines)
   pub seen : (r : ℕ) → r < length engine.locks → IsSole 0 (seen_at l r)
       → seen_at l r ≡ entries_by 0 (history_of (length engine.locks) r past)
-  pub told : AllSole (length engine.locks) l → ToldUpTo old now before after
+  pub reported : AllSole (length engine.locks) l → ReportedUpTo old now before after
       (outcomes_on engine (happenings engine.configs engine.pool lines))
       (happening_outcomes (last_tick past) (happenings engine.configs engine.pool left) (runs past engine.configs))
 
-pub telling_none : {engine : Shards} (lines : List Line) {left : List Line} {k : Knows} (now : Option (List ℕ)) (told : Telling)
+pub reporting_none : {engine : Shards} (lines : List Line) {left : List Line} {k : Knows} (now : Option (List ℕ)) (reported : PendingLines)
     → left ≡ lines → IsNewPass engine k
-    → IsTelling engine lines left k now now told told
-telling_none {engine} lines {left} {k} now told same new = record {
+    → IsReporting engine lines left k now now reported reported
+reporting_none {engine} lines {left} {k} now reported same new = record {
   past = [];
   short = omega (arith, ap length same);
   whole = ap (λ ls. filter_map session_event (happenings engine.configs engine.pool ls)) same;
   seen = λ r inside s. new.seen r inside;
-  told = λ s. rw (ap (λ ls. happening_outcomes (last_tick []) (happenings engine.configs engine.pool ls) (runs [] engine.configs)) same
+  reported = λ s. rw (ap (λ ls. happening_outcomes (last_tick []) (happenings engine.configs engine.pool ls) (runs [] engine.configs)) same
       ∙ outcomes_none engine.configs (happenings engine.configs engine.pool lines))
-      (nothing_told now told (outcomes_on engine (happenings engine.configs engine.pool lines)));
+      (nothing_reported now reported (outcomes_on engine (happenings engine.configs engine.pool lines)));
 }
 
-module _ {engine : Shards} {lines left rest : List Line} {line : Line} {l : Knows} {old now : Option (List ℕ)} {before told : Telling}
+module _ {engine : Shards} {lines left rest : List Line} {line : Line} {l : Knows} {old now : Option (List ℕ)} {before
+    reported : PendingLines}
     (split : left ≡ line ∷ rest)
-    (t : IsTelling engine lines left l old now before told) where
+    (t : IsReporting engine lines left l old now before reported) where
   abbrev h : Happening
   h = happening engine.configs engine.pool line
 
@@ -111,11 +114,11 @@ module _ {engine : Shards} {lines left rest : List Line} {line : Line} {l : Know
   stands : AllSole (length engine.locks) l → HasSeen engine t.past l
   stands s r inside = t.seen r inside (s r inside)
 
-  pub telling_next : {m : Knows} {next : Option (List ℕ)} {after : Telling}
+  pub reporting_next : {m : Knows} {next : Option (List ℕ)} {after : PendingLines}
       → ((r : ℕ) → r < length engine.locks → Went l m (brought (length engine.locks) (happening engine.configs engine.pool line) r) r)
-      → HasToldEvent engine (happening engine.configs engine.pool line) l m now next told after
-      → IsTelling engine lines rest m old next before after
-  telling_next {m} {next} {after} w more =
+      → HasReportedEvent engine (happening engine.configs engine.pool line) l m now next reported after
+      → IsReporting engine lines rest m old next before after
+  reporting_next {m} {next} {after} w more =
       let n = length engine.locks in
       let earlier : AllSole n m → AllSole n l = λ s r inside. (w r inside).sole (s r inside) in
       record {
@@ -129,44 +132,46 @@ module _ {engine : Shards} {lines left rest : List Line} {line : Line} {l : Know
           history_after n r t.past h,
           entries_both (history_of n r t.past) (brought n h r),
         );
-        told = λ s. told_on (t.told (earlier s)) (subst (λ os. ToldUpTo now next told after os later) outcomes_split
+        reported = λ s. reported_on (t.reported (earlier s)) (subst (λ os. ReportedUpTo now next reported after os later) outcomes_split
             (more s t.past (stands (earlier s)) later));
       }
 
-  pub telling_front : {times : ℕ} (m : Knows) (next : Option (List ℕ)) → HasKept times l m
-      → HasToldFront engine (happening engine.configs engine.pool line) l m now next told → AllSole (length engine.locks) m
+  pub reporting_front : {times : ℕ} (m : Knows) (next : Option (List ℕ)) → HasKept times l m
+      → HasReportedFront engine (happening engine.configs engine.pool line) l m now next reported → AllSole (length engine.locks) m
       → TookFront old next (before.text ++ lines_from (before.events + 1)
       (outcomes_on engine (happenings engine.configs engine.pool lines)))
-  telling_front m next kept more s =
+  reporting_front m next kept more s =
       let earlier : AllSole (length engine.locks) l = λ r inside. earlier_sole r kept (s r inside) in
-      took_front old now next _ _ (t.told earlier).lines
-      (subst (λ os. TookFront now next (told.text ++ lines_from (told.events + 1) os)) outcomes_split
+      took_front old now next _ _ (t.reported earlier).lines
+      (subst (λ os. TookFront now next (reported.text ++ lines_from (reported.events + 1) os)) outcomes_split
       (more s t.past (stands earlier) later))
 
-  pub telling_stopped : (m : Knows) (stop : Stop) → length lines ≤ engine.limit → IsEventStop engine l m stop → IsStop engine m stop
-  telling_stopped m (Unwritten fault) limit e = tt
-  telling_stopped m (Refused fault) limit e = cut_short engine l m t.past (length lines) fault (omega (arith, t.short, ap length split))
+  pub reporting_stopped : (m : Knows) (stop : Stop) → length lines ≤ engine.limit → IsEventStop engine l m stop → IsStop engine m stop
+  reporting_stopped m (Unwritten fault) limit e = tt
+  reporting_stopped m (Refused fault) limit e = cut_short engine l m t.past (length lines) fault (omega (arith, t.short, ap length split))
       limit t.seen e
 
 -- the end: nothing is left
-module _ {engine : Shards} {lines left : List Line} {l : Knows} {old now : Option (List ℕ)} {before told : Telling} (none : left ≡ [])
-    (t : IsTelling engine lines left l old now before told) where
-  pub telling_brought : HasBrought engine (happenings engine.configs engine.pool lines) l
-  telling_brought s r inside = t.seen r inside (s r inside)
+module _ {engine : Shards} {lines left : List Line} {l : Knows} {old now : Option (List ℕ)} {before reported : PendingLines}
+    (none : left ≡ [])
+    (t : IsReporting engine lines left l old now before reported) where
+  pub reporting_brought : HasBrought engine (happenings engine.configs engine.pool lines) l
+  reporting_brought s r inside = t.seen r inside (s r inside)
       ∙ ap (λ es. entries_by 0 (history_of (length engine.locks) r es)) (sym (append-nil t.past)
       ∙ (ap (λ ls. t.past ++ filter_map session_event (happenings engine.configs engine.pool ls)) (sym none) ∙ t.whole))
 
-  pub telling_all : AllSole (length engine.locks) l
-      → ToldUpTo old now before told (outcomes_on engine (happenings engine.configs engine.pool lines)) []
-  telling_all s = subst (λ ls. ToldUpTo old now before told (outcomes_on engine (happenings engine.configs engine.pool lines))
-      (happening_outcomes (last_tick t.past) (happenings engine.configs engine.pool ls) (runs t.past engine.configs))) none (t.told s)
+  pub reporting_all : AllSole (length engine.locks) l
+      → ReportedUpTo old now before reported (outcomes_on engine (happenings engine.configs engine.pool lines)) []
+  reporting_all s = subst (λ ls. ReportedUpTo old now before reported (outcomes_on engine (happenings engine.configs engine.pool lines))
+      (happening_outcomes (last_tick t.past) (happenings engine.configs engine.pool ls) (runs t.past engine.configs))) none (t.reported s)
 
-  pub telling_end : AllSole (length engine.locks) l
+  pub reporting_end : AllSole (length engine.locks) l
       → TookFront old now (before.text ++ lines_from (before.events + 1) (outcomes_on engine (happenings engine.configs engine.pool lines)))
-  telling_end s = (told.text ++ lines_from (told.events + 1) [], (telling_all s).lines)
+  reporting_end s = (reported.text ++ lines_from (reported.events + 1) [], (reporting_all s).lines)
 
 -- the report of all events, if nothing was reported at first
-module _ (old mid new : Option (List ℕ)) (start told : Telling) (os : List Outcome) (text : start.text ≡ []) (events : start.events ≡ 0)
+module _ (old mid new : Option (List ℕ)) (start reported : PendingLines) (os : List Outcome) (text : start.text ≡ [])
+    (events : start.events ≡ 0)
     (txs : start.txs ≡ 0) (drops : start.drops ≡ 0) where
   report_is : report os ≡ (start.text ++ lines_from (start.events + 1) os)
       ++ done_line (start.events + length os) (start.txs + sum_by packets_sent os) (start.drops + sum_by dropped os)
@@ -177,26 +182,29 @@ module _ (old mid new : Option (List ℕ)) (start told : Telling) (os : List Out
       let d : start.drops + sum_by dropped os ≡ sum_by dropped os = omega (arith, drops) in
       rw (text, n, e, t, d) refl
 
-  last_is : ToldUpTo old mid start told os [] → done_line (start.events + length os) (start.txs + sum_by packets_sent os)
-      (start.drops + sum_by dropped os) ≡ done_line told.events told.txs told.drops
+  last_is : ReportedUpTo old mid start reported os [] → done_line (start.events + length os) (start.txs + sum_by packets_sent os)
+      (start.drops + sum_by dropped os) ≡ done_line reported.events reported.txs reported.drops
   last_is all =
-      let e : start.events + length os ≡ told.events = omega (arith, all.events) in
-      let t : start.txs + sum_by packets_sent os ≡ told.txs = omega (arith, all.txs) in
-      let d : start.drops + sum_by dropped os ≡ told.drops = omega (arith, all.drops) in
+      let e : start.events + length os ≡ reported.events = omega (arith, all.events) in
+      let t : start.txs + sum_by packets_sent os ≡ reported.txs = omega (arith, all.txs) in
+      let d : start.drops + sum_by dropped os ≡ reported.drops = omega (arith, all.drops) in
       rw (e, t, d) refl
 
-  left_to_write : ToldUpTo old mid start told os [] → TookUpTo old mid (report os) (told.text ++ done_line told.events told.txs told.drops)
+  left_to_write : ReportedUpTo old mid start reported os []
+      → TookUpTo old mid (report os) (reported.text ++ done_line reported.events reported.txs reported.drops)
   left_to_write all =
-      let last : List ℕ = done_line told.events told.txs told.drops in
+      let last : List ℕ = done_line reported.events reported.txs reported.drops in
       let lines : List ℕ = start.text ++ lines_from (start.events + 1) os in
       let is : report os ≡ lines ++ last = cc (report_is, last_is all) in
-      rw is (rw (← append-nil told.text) (took_of_longer old mid _ _ last all.lines))
+      rw is (rw (← append-nil reported.text) (took_of_longer old mid _ _ last all.lines))
 
-  pub report_whole : ToldUpTo old mid start told os [] → Appends mid new (told.text ++ done_line told.events told.txs told.drops)
+  pub report_whole : ReportedUpTo old mid start reported os []
+      → Appends mid new (reported.text ++ done_line reported.events reported.txs reported.drops)
       → Appends old new (report os)
   report_whole all now = took_rest old mid new _ _ (left_to_write all) now
 
-  pub report_front : ToldUpTo old mid start told os [] → TookFront mid new (told.text ++ done_line told.events told.txs told.drops)
+  pub report_front : ReportedUpTo old mid start reported os []
+      → TookFront mid new (reported.text ++ done_line reported.events reported.txs reported.drops)
       → TookFront old new (report os)
   report_front all now = took_front old mid new _ _ (left_to_write all) now
 
@@ -206,11 +214,11 @@ module _ (old mid new : Option (List ℕ)) (start told : Telling) (os : List Out
       (front_of_longer old new _ (done_line (start.events + length os) (start.txs + sum_by packets_sent os)
       (start.drops + sum_by dropped os)) took)
 
-pub counts_told : {old mid : Option (List ℕ)} (start told : Telling) (os : List Outcome) → start.events ≡ 0 → start.txs ≡ 0
-    → start.drops ≡ 0 → ToldUpTo old mid start told os []
-    → (let c : Counts = record { events = told.events; txs = told.txs; drops = told.drops } in c) ≡ counts_of os
-counts_told start told os events txs drops all =
-    let e : told.events ≡ length os = omega (arith, all.events, events) in
-    let t : told.txs ≡ sum_by packets_sent os = omega (arith, all.txs, txs) in
-    let d : told.drops ≡ sum_by dropped os = omega (arith, all.drops, drops) in
+pub counts_reported : {old mid : Option (List ℕ)} (start reported : PendingLines) (os : List Outcome) → start.events ≡ 0 → start.txs ≡ 0
+    → start.drops ≡ 0 → ReportedUpTo old mid start reported os []
+    → (let c : Counts = record { events = reported.events; txs = reported.txs; drops = reported.drops } in c) ≡ counts_of os
+counts_reported start reported os events txs drops all =
+    let e : reported.events ≡ length os = omega (arith, all.events, events) in
+    let t : reported.txs ≡ sum_by packets_sent os = omega (arith, all.txs, txs) in
+    let d : reported.drops ≡ sum_by dropped os = omega (arith, all.drops, drops) in
     rw (e, t, d) refl

@@ -3,9 +3,9 @@ use Rattle.bfd_replay.proofs.WorkerCommon.{◌∙◌, ◌≡◌, inl, inr, ◌<�
 use Rattle.bfd_replay.proofs.WorkerCommon.{List, length, map, get_or, refl, sym, ap, subst, arith, Some, None, Option, add_comm}
 use Rattle.bfd_replay.proofs.WorkerCommon.{slice_index_or, sum_by, if◌then◌else◌, length-map, slice_get-get_or, slice_get_within, eqb-true}
 use Rattle.bfd_replay.proofs.WorkerCommon.{cases_lt, SessionConfig, started, Shard, CanHappen, IsShard, Shards, configs_at, Numbered, Piece}
-use Rattle.bfd_replay.proofs.WorkerCommon.{Happening, Apart, Among, AreParts, in_shard, numbered, queue, told_apart, AreQueues, IsMet}
+use Rattle.bfd_replay.proofs.WorkerCommon.{Happening, Apart, Among, AreParts, in_shard, numbered, queue, apart_pieces, AreQueues, IsMet}
 use Rattle.bfd_replay.proofs.WorkerCommon.{events_of_table, happening, happenings, AreMet, one_up, sum_to, ups, left_is, world_is, Lists}
-use Rattle.bfd_replay.proofs.WorkerCommon.{AreStates, AreTold, totals, runs, queue_events, runs_share, Reflector}
+use Rattle.bfd_replay.proofs.WorkerCommon.{AreStates, AreReported, totals, runs, queue_events, runs_share, Reflector}
 use Rattle.std.specs.List.{AllByRecursion, cons_option}
 use Rattle.bfd_session.specs.declared.event.Event.{Event}
 use Rattle.bfd_session.specs.Rows.{Ascends}
@@ -75,14 +75,14 @@ met_queues engine {hs} locks some are met s inside =
 pub are_parts : {engine : Shards} {shards workers : ℕ} {hs : List Happening} {configs : List SessionConfig} {queues : List
     (List Numbered)} {all : List (List (List Piece))} (parts : List (List Piece)) {apart : List Piece}
     → 0 < shards → shards ≡ length engine.locks → engine.configs ≡ configs → Ascends configs → AreQueues shards hs queues
-    → AreTold engine queues workers all → length parts ≡ shards + 1
+    → AreReported engine queues workers all → length parts ≡ shards + 1
     → ((s : ℕ) → s < shards → slice_index_or parts s [] ≡ slice_index_or (slice_index_or all (s % length all) []) s [])
-    → slice_index_or parts shards [] ≡ apart → apart ≡ told_apart 1 hs
+    → slice_index_or parts shards [] ≡ apart → apart ≡ apart_pieces 1 hs
     → AreParts shards 1 0 hs (map started configs) parts
-are_parts {shards} {configs} parts some locks is ascends are told_are long each last apart_is = record {
+are_parts {shards} {configs} parts some locks is ascends are reported_are long each last apart_is = record {
   some = some;
   long = long;
-  each = λ s h. cc (each s h, told_are.each s (omega (arith, h, locks)), are.each s h, share_map started shards s configs);
+  each = λ s h. cc (each s h, reported_are.each s (omega (arith, h, locks)), are.each s h, share_map started shards s configs);
   others = cc;
   ascends = subst Ascends (sym (started_configs configs)) ascends;
 }

@@ -17,7 +17,7 @@ use Rattle.bfd_turn.specs.Lists.{Begins}
 use Rattle.bfd_turn.specs.Passes.{last_word}
 use Rattle.bfd_turn.proofs.Beginnings.{begins_through}
 use Rattle.bfd_engine.specs.Calls.{IsCall, IsDone, IsFailed, Turned, Turns}
-use Rattle.bfd_replay.specs.Turning.{Gave, HasKept, HaveToldTick, IsRefusal, Went, brought}
+use Rattle.bfd_replay.specs.Turning.{Gave, HasKept, HaveReportedTick, IsRefusal, Went, brought}
 use Rattle.bfd_replay.specs.Pieces.{event_pieces, item_piece}
 use Rattle.bfd_replay.proofs.OneCaller.{given_stands, one_share}
 use Rattle.bfd_replay.proofs.Sharing.{own_gives}
@@ -131,7 +131,7 @@ call_gave engine shard event k l outs2 answer first d sole =
     let whole : IsSole 0 ((seen_at k shard ++ d.between) ++ entry_of k.0 event ∷ []) = subst (IsSole 0) d.turned.here sole in
     let none = between_none 0 (seen_at k shard) d.between (entry_of k.0 event ∷ []) others whole in
     let o : Outcome = given_after (configs_at engine shard) (seen_at k shard ++ d.between) event in
-    ap (λ xs. let r : Outcome = record { items = xs; answer = answer } in r) d.told
+    ap (λ xs. let r : Outcome = record { items = xs; answer = answer } in r) d.reported
     ∙ (ap (λ a. let r : Outcome = record { items = o.items; answer = a } in r) d.answered
     ∙ ap (λ before. given_after (configs_at engine shard) before event) none)
 
@@ -260,16 +260,16 @@ module _ (engine : Shards) (t at : ℕ) (k l m : Knows) (outs2 : List Out) (answ
       ∙ ap (λ s. given_after (configs_at engine s) (seen_at k s) (Tick t)) here
 
   -- and what it reported there
-  pub tick_told : (number : ℕ) (parts : List (List Piece)) (result : Result Answer EngineFault) → length parts ≡ at
-      → HaveToldTick engine number t at k l parts
+  pub tick_reported : (number : ℕ) (parts : List (List Piece)) (result : Result Answer EngineFault) → length parts ≡ at
+      → HaveReportedTick engine number t at k l parts
       → IsDone (Turns at (Tick t)) engine l m [] outs2 result → result ≡ Ok answer
-      → HaveToldTick engine number t (at + 1) k m (parts ++ map (item_piece number) outs2 ∷ [])
-  tick_told number parts result long told d is r inside sole = dite (ℕ_discrete r at)
+      → HaveReportedTick engine number t (at + 1) k m (parts ++ map (item_piece number) outs2 ∷ [])
+  tick_reported number parts result long reported d is r inside sole = dite (ℕ_discrete r at)
       (λ e. at_end parts (map (item_piece number) outs2) (e ∙ sym long)
       ∙ (ap (λ (o : Outcome). map (item_piece number) o.items) (tick_gave result d is (subst (λ x. IsSole 0 (seen_at m x)) e sole))
       ∙ ap (λ x. event_pieces number (Tick t) (given_after (configs_at engine x) (seen_at k x) (Tick t))) (sym e)))
       (λ e. before_end parts (map (item_piece number) outs2) (omega (arith, inside, e, long))
-      ∙ told r (omega (arith, inside, e)) (subst (IsSole 0) ((call_of result d is).turned.seen_elsewhere r e) sole))
+      ∙ reported r (omega (arith, inside, e)) (subst (IsSole 0) ((call_of result d is).turned.seen_elsewhere r e) sole))
 
 -- on one shard it gave this
 pub one_gave : (engine : Shards) (t at : ℕ) (k l : Knows) (outcome : Outcome) → at ≡ length engine.locks

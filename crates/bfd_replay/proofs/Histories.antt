@@ -4,7 +4,8 @@ use Rattle.bfd_replay.proofs.ReportCommon.{get_or, refl, ap, ◌∙◌, append_a
 use Rattle.bfd_replay.proofs.ReportCommon.{cons_option, filter_map, get_or-map, length-map, cases_eq, eq-eqb, ne_eqb, Event, Outcome}
 use Rattle.bfd_replay.proofs.ReportCommon.{Running, ShardEvent, Own, Tick, event_in, history_of, share, later, last_from, last_tick}
 use Rattle.bfd_replay.proofs.ReportCommon.{run_from, moved, outcome_of, runs, event_pieces, whole_piece, Happening, Apart, Among}
-use Rattle.bfd_replay.proofs.ReportCommon.{session_event, in_shard, numbered, queue, shard_tells, told_apart, moved_at, moved_long, runs_at}
+use Rattle.bfd_replay.proofs.ReportCommon.{session_event, in_shard, numbered, queue, shard_pieces, apart_pieces, moved_at, moved_long}
+use Rattle.bfd_replay.proofs.ReportCommon.{runs_at}
 use Rattle.bfd_replay.proofs.ReportCommon.{runs_long, Numbered, share_map}
 use Rattle.bfd_session.specs.declared.event.SessionConfig.{SessionConfig}
 use Rattle.bfd_session.specs.Step.{started}
@@ -101,12 +102,12 @@ queue_more n r number (x ∷ hs) h =
     (cc (queue_more n r (number + 1) hs h, same_number number (length hs)))
 
 pub apart_more : (number : ℕ) (hs : List Happening) (o : Outcome)
-    → told_apart number (hs ++ Apart o ∷ []) ≡ told_apart number hs ++ whole_piece (number + length hs) o ∷ []
+    → apart_pieces number (hs ++ Apart o ∷ []) ≡ apart_pieces number hs ++ whole_piece (number + length hs) o ∷ []
 apart_more number [] o = ap (λ k. whole_piece k o ∷ []) (let z : number ≡ number + 0 = omega arith in z)
 apart_more number (Apart x ∷ hs) o = cc (apart_more (number + 1) hs o, same_number number (length hs))
 apart_more number (Among e ∷ hs) o = cc (apart_more (number + 1) hs o, same_number number (length hs))
 
-pub among_more : (number : ℕ) (hs : List Happening) (e : ShardEvent) → told_apart number (hs ++ Among e ∷ []) ≡ told_apart number hs
+pub among_more : (number : ℕ) (hs : List Happening) (e : ShardEvent) → apart_pieces number (hs ++ Among e ∷ []) ≡ apart_pieces number hs
 among_more number [] e = refl
 among_more number (Apart x ∷ hs) e = cc (among_more (number + 1) hs e)
 among_more number (Among x ∷ hs) e = among_more (number + 1) hs e
@@ -121,24 +122,24 @@ queue_append n r number (x ∷ xs) ys = queue_by (numbered number (in_shard n r 
     (cc (queue_append n r (number + 1) xs ys, same_number number (length xs)))
 
 pub apart_append : (number : ℕ) (xs ys : List Happening)
-    → told_apart number (xs ++ ys) ≡ told_apart number xs ++ told_apart (number + length xs) ys
-apart_append number [] ys = ap (λ k. told_apart k ys) (let z : number ≡ number + 0 = omega arith in z)
+    → apart_pieces number (xs ++ ys) ≡ apart_pieces number xs ++ apart_pieces (number + length xs) ys
+apart_append number [] ys = ap (λ k. apart_pieces k ys) (let z : number ≡ number + 0 = omega arith in z)
 apart_append number (Apart o ∷ xs) ys = cc (apart_append (number + 1) xs ys, same_number number (length xs))
 apart_append number (Among e ∷ xs) ys = cc (apart_append (number + 1) xs ys, same_number number (length xs))
 
-told_more : (last : ℕ) (xs : List Numbered) (x : Numbered) (ss : List Running)
-    → shard_tells last (xs ++ x ∷ []) ss ≡ shard_tells last xs ss ++ event_pieces x.number x.event
+reported_more : (last : ℕ) (xs : List Numbered) (x : Numbered) (ss : List Running)
+    → shard_pieces last (xs ++ x ∷ []) ss ≡ shard_pieces last xs ss ++ event_pieces x.number x.event
     (outcome_of (last_from last (map (λ (e : Numbered). e.event) xs)) x.event (left_by last (map (λ (e : Numbered). e.event) xs) ss))
 unfolding last_from
-told_more last [] x ss = append-nil (event_pieces x.number x.event (outcome_of last x.event ss))
-told_more last (y ∷ xs) x ss = cc (
-  told_more (later last y.event) xs x (moved last y.event ss),
-  append_assoc (event_pieces y.number y.event (outcome_of last y.event ss)) (shard_tells (later last y.event) xs (moved last y.event ss))
+reported_more last [] x ss = append-nil (event_pieces x.number x.event (outcome_of last x.event ss))
+reported_more last (y ∷ xs) x ss = cc (
+  reported_more (later last y.event) xs x (moved last y.event ss),
+  append_assoc (event_pieces y.number y.event (outcome_of last y.event ss)) (shard_pieces (later last y.event) xs (moved last y.event ss))
       (event_pieces x.number x.event (outcome_of (last_from (later last y.event) (map (λ e. e.event) xs)) x.event
       (left_by (later last y.event) (map (λ e. e.event) xs) (moved last y.event ss)))),
 )
 
-pub told_runs : (xs : List Numbered) (x : Numbered) (cs : List SessionConfig)
-    → shard_tells 0 (xs ++ x ∷ []) (map started cs) ≡ shard_tells 0 xs (map started cs) ++ event_pieces x.number x.event
+pub reported_runs : (xs : List Numbered) (x : Numbered) (cs : List SessionConfig)
+    → shard_pieces 0 (xs ++ x ∷ []) (map started cs) ≡ shard_pieces 0 xs (map started cs) ++ event_pieces x.number x.event
     (outcome_of (last_tick (map (λ (e : Numbered). e.event) xs)) x.event (runs (map (λ (e : Numbered). e.event) xs) cs))
-told_runs xs x cs = cc (told_more 0 xs x (map started cs), left_runs (map (λ e. e.event) xs) cs)
+reported_runs xs x cs = cc (reported_more 0 xs x (map started cs), left_runs (map (λ e. e.event) xs) cs)

@@ -13,7 +13,7 @@ pub mod Taking
 pub mod Alone
 pub mod Sharing
 pub mod Histories
-pub mod Telling
+pub mod Dealing
 mod Ticking
 pub mod Whole
 pub mod PiecesGiven

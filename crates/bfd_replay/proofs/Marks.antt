@@ -57,9 +57,9 @@ part_more ms ms2 t t2 ps s m e k =
     }))
 
 -- and what it reports then
-told_more : (ms ms2 : List Mark) (t t2 : List ℕ) (ps : List Piece) → IsPart ms t → ms2 ≡ ms ++ map mark_of ps → t2 ≡ t ++ texts ps
+reported_more : (ms ms2 : List Mark) (t t2 : List ℕ) (ps : List Piece) → IsPart ms t → ms2 ≡ ms ++ map mark_of ps → t2 ≡ t ++ texts ps
     → pieces_at ms2 t2 ≡ pieces_at ms t ++ ps
-told_more ms ms2 t t2 ps s m e = cc (pieces_append ms (map mark_of ps) t (texts ps) s.whole, pieces_back ps)
+reported_more ms ms2 t t2 ps s m e = cc (pieces_append ms (map mark_of ps) t (texts ps) s.whole, pieces_back ps)
 
 -- a part to which all of another was appended
 part_both : (ms ms2 ns : List Mark) (t t2 u : List ℕ) → IsPart ms t → IsPart ns u → ms2 ≡ ms ++ ns → t2 ≡ t ++ u → IsPart ms2 t2
@@ -69,9 +69,9 @@ part_both ms ms2 ns t t2 u s l m e =
       counts = each_more (λ n. n.txs + n.drops ≤ n.long) ms ns s.counts l.counts;
     }))
 
-told_both : (ms ms2 ns : List Mark) (t t2 u : List ℕ) → IsPart ms t → ms2 ≡ ms ++ ns → t2 ≡ t ++ u
+reported_both : (ms ms2 ns : List Mark) (t t2 u : List ℕ) → IsPart ms t → ms2 ≡ ms ++ ns → t2 ≡ t ++ u
     → pieces_at ms2 t2 ≡ pieces_at ms t ++ pieces_at ns u
-told_both ms ms2 ns t t2 u s m e = cc (pieces_append ms ns t u s.whole)
+reported_both ms ms2 ns t t2 u s m e = cc (pieces_append ms ns t u s.whole)
 
 -- the pieces of a tick and of an event have text
 pub items_have : (n : ℕ) (os : List Out) → AllByRecursion HasText (map (item_piece n) os)
@@ -89,10 +89,10 @@ module _ {T E : Type 0} where
   part_by (Ok x) ms ms2 t t2 ps s m e n f k = part_more ms ms2 t t2 ps s m e k
   part_by (Err x) ms ms2 t t2 ps s m e n f k = rw n (rw f s)
 
-  pub told_by : (r : Result T E) (ms ms2 : List Mark) (t t2 : List ℕ) (ps before : List Piece) → IsPart ms t → pieces_at ms t ≡ before
+  pub reported_by : (r : Result T E) (ms ms2 : List Mark) (t t2 : List ℕ) (ps before : List Piece) → IsPart ms t → pieces_at ms t ≡ before
       → OnOk r (ms2 ≡ ms ++ map mark_of ps) → OnOk r (t2 ≡ t ++ texts ps) → OnOk r (pieces_at ms2 t2 ≡ before ++ ps)
-  told_by (Ok x) ms ms2 t t2 ps before s v m e = cc (told_more ms ms2 t t2 ps s m e)
-  told_by (Err x) ms ms2 t t2 ps before s v m e = tt
+  reported_by (Ok x) ms ms2 t t2 ps before s v m e = cc (reported_more ms ms2 t t2 ps s m e)
+  reported_by (Err x) ms ms2 t t2 ps before s v m e = tt
 
   -- all of another part was reported, or nothing
   pub both_by : (r : Result T E) (ms ms2 ns : List Mark) (t t2 u : List ℕ) → IsPart ms t → IsPart ns u
@@ -100,11 +100,11 @@ module _ {T E : Type 0} where
   both_by (Ok x) ms ms2 ns t t2 u s l m e n f = part_both ms ms2 ns t t2 u s l m e
   both_by (Err x) ms ms2 ns t t2 u s l m e n f = rw n (rw f s)
 
-  pub both_told : (r : Result T E) (ms ms2 ns : List Mark) (t t2 u : List ℕ) (before more : List Piece) → IsPart ms t
+  pub both_reported : (r : Result T E) (ms ms2 ns : List Mark) (t t2 u : List ℕ) (before more : List Piece) → IsPart ms t
       → pieces_at ms t ≡ before → pieces_at ns u ≡ more
       → OnOk r (ms2 ≡ ms ++ ns) → OnOk r (t2 ≡ t ++ u) → OnOk r (pieces_at ms2 t2 ≡ before ++ more)
-  both_told (Ok x) ms ms2 ns t t2 u before more s v w m e = cc (told_both ms ms2 ns t t2 u s m e)
-  both_told (Err x) ms ms2 ns t t2 u before more s v w m e = tt
+  both_reported (Ok x) ms ms2 ns t t2 u before more s v w m e = cc (reported_both ms ms2 ns t t2 u s m e)
+  both_reported (Err x) ms ms2 ns t t2 u before more s v w m e = tt
 
   -- one piece's text is the text of it alone
   pub single : (r : Result T E) (t t2 : List ℕ) (p : Piece) → OnOk r (t2 ≡ t ++ p.text) → OnOk r (t2 ≡ t ++ texts (p ∷ []))

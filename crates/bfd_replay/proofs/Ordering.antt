@@ -17,9 +17,10 @@ ok_more f g xs {x} vs {v} so_far one pushed = map-append f xs (x ∷ [])
     ∙ (sym (map-append Ok (map g vs) (g v ∷ [])) ∙ (ap (map Ok) (sym (map-append g vs (v ∷ [])))
     ∙ ap (λ l. map Ok (map g l)) (sym pushed)))))
 
-pub told_more : {A B V : Type 0} (f : A → V) (g : B → V) (ts : List A) {ts2 : List A} {t : A} (ws : List B) {w : B} → map f ts ≡ map g ws
+pub reported_more : {A B V : Type 0} (f : A → V) (g : B → V) (ts : List A) {ts2 : List A} {t : A} (ws : List B) {w : B}
+    → map f ts ≡ map g ws
     → f t ≡ g w → ts2 ≡ ts ++ t ∷ [] → map f ts2 ≡ map g (ws ++ w ∷ [])
-told_more f g ts {t} ws {w} so_far one pushed = cc (map-append f ts (t ∷ []), map-append g ws (w ∷ []))
+reported_more f g ts {t} ws {w} so_far one pushed = cc (map-append f ts (t ∷ []), map-append g ws (w ∷ []))
 
 -- the parts so far, with one more
 pub record InOrder (shards workers shard : ℕ) {P : Type 0} (all left : List (List (List P))) (parts : List (List P)) : Type 0 where

@@ -1,7 +1,7 @@
 -- Lines in runs, and what was planned of the runs, put one behind another.
 use Rattle.bfd_replay.proofs.PlanCommon.{◌≡◌, ◌<◌, ◌≤◌, ◌+◌, ◌++◌, ℕ, zero, suc, List, [], ◌∷◌, length, map, get_or, take, drop, refl, sym}
 use Rattle.bfd_replay.proofs.PlanCommon.{ap, subst, append_assoc, arith, length-append, slice_index_or, AllByRecursion, map-append}
-use Rattle.bfd_replay.proofs.PlanCommon.{length-map, take-append-drop, Reflector, SessionConfig, Line, queue, told_apart, AreQueues}
+use Rattle.bfd_replay.proofs.PlanCommon.{length-map, take-append-drop, Reflector, SessionConfig, Line, queue, apart_pieces, AreQueues}
 use Rattle.bfd_replay.proofs.PlanCommon.{AreRuns, Follow, IsMet, IsPlanOf, IsRunPlanned, behind, happenings, happening, run_lines, Numbered}
 use Rattle.bfd_replay.proofs.PlanCommon.{Piece, queue_append, apart_append}
 use Rattle.std.specs.Global.{Vec}
@@ -103,11 +103,11 @@ behind_next done {ys} {rest} {x} {q} split one two is so_far = cc (append_assoc 
 
 -- one more run
 put_run : {configs : List SessionConfig} {pool : List Reflector} {all lines : List Line}
-    (rest : List Line) {shards number : ℕ} {before queues after : List (List Numbered)} {apart told apart2 : List Piece}
-    → IsRunPlanned configs pool shards number lines queues told → after ≡ behind before queues → apart2 ≡ apart ++ told
+    (rest : List Line) {shards number : ℕ} {before queues after : List (List Numbered)} {apart reported apart2 : List Piece}
+    → IsRunPlanned configs pool shards number lines queues reported → after ≡ behind before queues → apart2 ≡ apart ++ reported
     → IsOnPlan configs pool all (lines ++ rest) shards 1 number before apart
     → IsOnPlan configs pool all rest shards 1 (number + length lines) after apart2
-put_run {configs} {pool} {lines} rest {shards} {number} {before} {queues} {apart} {told} p is more on =
+put_run {configs} {pool} {lines} rest {shards} {number} {before} {queues} {apart} {reported} p is more on =
     let these = map-append (happening configs pool) lines rest in
     let long = length-map lines (happening configs pool) in
     record {
@@ -121,9 +121,9 @@ put_run {configs} {pool} {lines} rest {shards} {number} {before} {queues} {apart
             queue_append shards k number (happenings configs pool lines) (happenings configs pool rest),
             on.queued k inside,
           );
-      told =
+      reported =
           cc (
-            append_assoc apart told (told_apart (number + length lines) (happenings configs pool rest)),
+            append_assoc apart reported (apart_pieces (number + length lines) (happenings configs pool rest)),
             apart_append number (happenings configs pool lines) (happenings configs pool rest),
           );
       met = λ h. on.met (subst (AllByRecursion (IsMet configs)) (sym these)
@@ -189,7 +189,7 @@ put_last (r ∷ rs) planned on = absurd planned
 pub record IsEndOfPlan (configs : List SessionConfig) (pool : List Reflector) (all : List Line) (shards : ℕ) (queues : List (List Numbered))
     (apart : List Piece) : Type 0 where
   pub queues_are : AreQueues shards (happenings configs pool all) queues
-  pub apart_is : apart ≡ told_apart 1 (happenings configs pool all)
+  pub apart_is : apart ≡ apart_pieces 1 (happenings configs pool all)
   pub met : AllByRecursion (IsMet configs) (happenings configs pool all)
 
 ended : {configs : List SessionConfig} {pool : List Reflector} {all : List Line} {shards : ℕ} {queues : List (List Numbered)} {apart : List
@@ -197,7 +197,7 @@ ended : {configs : List SessionConfig} {pool : List Reflector} {all : List Line}
     → IsRunPlanned configs pool shards 1 all queues apart → IsEndOfPlan configs pool all shards queues apart
 ended p = record {
   queues_are = record { long = p.long; each = p.queued };
-  apart_is = p.told;
+  apart_is = p.reported;
   met = p.met;
 }
 

@@ -5,7 +5,7 @@ pub use Rattle.std.proofs.Common.{◌∙◌, ◌∷◌, ◌≡◌, ◌≤◌, �
 pub use Rattle.std.proofs.lemmas.List.{get_or_default, length-map, map-append, reverse-append, reverse-reverse, take-append-drop}
 pub use Rattle.std.specs.List.{AllByRecursion, cons_option, filter_map}
 pub use Rattle.std.specs.Prelude.{slice_get, slice_index_or}
-pub use Rattle.bfd_replay.specs.Happenings.{Among, Apart, Happening, in_shard, numbered, queue, session_event, told_apart}
+pub use Rattle.bfd_replay.specs.Happenings.{Among, Apart, Happening, in_shard, numbered, queue, session_event, apart_pieces}
 pub use Rattle.bfd_script.specs.declared.line.entries.Line.{Line}
 pub use Rattle.bfd_replay.specs.Planned.{AreQueues, AreRuns, Follow, IsMet, IsPlanOf, IsPlanned, IsRunPlanned, behind, events_left}
 pub use Rattle.bfd_replay.specs.Planned.{events_of_table, happening, happening_by, happenings, reflecting, run_lines}

@@ -1,17 +1,17 @@
 -- One more line is planned.
 use Rattle.bfd_replay.proofs.PlanCommon.{◌≡◌, ◌⊎◌, inl, inr, ◌<◌, ◌≤◌, ◌+◌, ◌++◌, ℕ, List, [], ◌∷◌, length, sym, ap, subst, append_assoc}
 use Rattle.bfd_replay.proofs.PlanCommon.{append-nil, arith, Option, None, Some, slice_index_or, AllByRecursion, cons_option, Reflector}
-use Rattle.bfd_replay.proofs.PlanCommon.{SessionConfig, Line, Happening, Apart, Among, in_shard, numbered, queue, told_apart, IsPlanned}
+use Rattle.bfd_replay.proofs.PlanCommon.{SessionConfig, Line, Happening, Apart, Among, in_shard, numbered, queue, apart_pieces, IsPlanned}
 use Rattle.bfd_replay.proofs.PlanCommon.{IsMet, IsRunPlanned, happenings, happening, Numbered, Piece}
 
 one_then : (xs rest : List Numbered) (o : Option Numbered) → (xs ++ cons_option o []) ++ rest ≡ xs ++ cons_option o rest
 one_then xs rest None = cc (append-nil xs)
 one_then xs rest (Some e) = append_assoc xs (e ∷ []) rest
 
-told_then : (number : ℕ) (h : Happening) (rest : List Happening) (xs : List Piece)
-    → (xs ++ told_apart number (h ∷ [])) ++ told_apart (number + 1) rest ≡ xs ++ told_apart number (h ∷ rest)
-told_then number (Apart outcome) rest xs = append_assoc xs (told_apart number (Apart outcome ∷ [])) (told_apart (number + 1) rest)
-told_then number (Among event) rest xs = cc (append-nil xs)
+reported_then : (number : ℕ) (h : Happening) (rest : List Happening) (xs : List Piece)
+    → (xs ++ apart_pieces number (h ∷ [])) ++ apart_pieces (number + 1) rest ≡ xs ++ apart_pieces number (h ∷ rest)
+reported_then number (Apart outcome) rest xs = append_assoc xs (apart_pieces number (Apart outcome ∷ [])) (apart_pieces (number + 1) rest)
+reported_then number (Among event) rest xs = cc (append-nil xs)
 
 -- what was planned of lines of which the first has the number `start`, and of which these are left
 pub record IsOnPlan (configs : List SessionConfig) (pool : List Reflector) (all left : List Line) (shards start number : ℕ)
@@ -19,7 +19,7 @@ pub record IsOnPlan (configs : List SessionConfig) (pool : List Reflector) (all 
   pub long : length queues ≡ shards
   pub queued : (k : ℕ) → k < shards → slice_index_or queues k [] ++ queue shards k number (happenings configs pool left)
       ≡ queue shards k start (happenings configs pool all)
-  pub told : apart ++ told_apart number (happenings configs pool left) ≡ told_apart start (happenings configs pool all)
+  pub reported : apart ++ apart_pieces number (happenings configs pool left) ≡ apart_pieces start (happenings configs pool all)
   pub met : AllByRecursion (IsMet configs) (happenings configs pool left) → AllByRecursion (IsMet configs) (happenings configs pool all)
   pub few : number + length left ≡ start + length all
 
@@ -40,7 +40,7 @@ plan_more {configs} {pool} {left} {rest} {h} {shards} {number} {before} {apart} 
                 (numbered number (in_shard (length before) k h)),
             so_far.queued k inside,
           );
-      told = cc (told_then number h (happenings configs pool rest) apart);
+      reported = cc (reported_then number h (happenings configs pool rest) apart);
       met = λ rest_met. so_far.met (subst (AllByRecursion (IsMet configs)) (sym these) (met, rest_met));
       few = omega (arith, ap length split, so_far.few);
     }
@@ -52,7 +52,7 @@ pub plan_start : (configs : List SessionConfig) (pool : List Reflector) {all lef
 plan_start configs pool queues same is long none empty = record {
   long = long;
   queued = λ k inside. cc (none k);
-  told = cc;
+  reported = cc;
   met = λ h. rw (← same) h;
   few = omega (arith, ap length same, is);
 }
@@ -63,7 +63,7 @@ pub plan_end : {configs : List SessionConfig} {pool : List Reflector} {all left 
 plan_end {queues} {apart} none so_far = record {
   long = so_far.long;
   queued = λ k inside. cc (append-nil (slice_index_or queues k []), so_far.queued k inside);
-  told = cc (append-nil apart);
+  reported = cc (append-nil apart);
   met = so_far.met (rw none tt);
 }
 

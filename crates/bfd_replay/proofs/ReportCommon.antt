@@ -9,7 +9,7 @@ pub use Rattle.std.proofs.lemmas.List.Sums.{sum_by-append, sum_by-cons}
 pub use Rattle.std.specs.List.{AllByRecursion, cons_option, filter, filter_map, flat_map, sum_by}
 pub use Rattle.std.specs.Prelude.{IfOk, IfSome, nat_lt, slice_get, ◌^◌}
 pub use Rattle.bfd_replay.specs.Happenings.{Among, Apart, AreParts, Happening, happening_outcomes, in_shard, numbered, queue, session_event}
-pub use Rattle.bfd_replay.specs.Happenings.{shard_tells, told_apart, told_whole}
+pub use Rattle.bfd_replay.specs.Happenings.{shard_pieces, apart_pieces, whole_pieces}
 pub use Rattle.bfd_replay.specs.Inside.{HasAll, IsLeast, IsPart, first_drops, first_key, first_text, first_txs, head_key, keys, mark_key}
 pub use Rattle.bfd_replay.specs.Inside.{mark_of, pieces_at, rank_key}
 pub use Rattle.bfd_replay.specs.Pieces.{Piece, event_pieces, item_piece, key, precedes, texts, whole_piece}

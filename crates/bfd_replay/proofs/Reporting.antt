@@ -5,11 +5,11 @@ use Rattle.bfd_replay.proofs.WorkerCommon.{report, replayed, world_is}
 use Rattle.bfd_edge.specs.declared.fault.Fault.{Fault}
 use Rattle.bfd_edge.specs.declared.fault.Fault.TheVariants as sink
 use Rattle.bfd_edge.specs.Faults.{HasCause, Rose}
-use Rattle.bfd_replay.specs.declared.stream.telling.Stop.{Stop}
-use Rattle.bfd_replay.specs.declared.stream.telling.Stop.TheVariants.{Refused, Unwritten}
+use Rattle.bfd_replay.specs.declared.stream.pending.Stop.{Stop}
+use Rattle.bfd_replay.specs.declared.stream.pending.Stop.TheVariants.{Refused, Unwritten}
 use Rattle.bfd_replay.specs.Happenings.{happening_outcomes}
 use Rattle.bfd_replay.specs.Replayed.{HaveReplayed, taker_of}
-use Rattle.bfd_replay.specs.Telling.{HasBrought, HasStopCause, IsClosedAfter, IsMeant, IsStop, reason_of, outcomes_on}
+use Rattle.bfd_replay.specs.PendingLines.{HasBrought, HasStopCause, IsClosedAfter, IsMeant, IsStop, reason_of, outcomes_on}
 use Rattle.bfd_replay.specs.Turning.{HasKept, IsOpenedFor}
 use Rattle.bfd_replay.proofs.OneCaller.{all_sole, never_stopped}
 

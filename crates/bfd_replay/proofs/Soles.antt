@@ -2,8 +2,9 @@
 use Rattle.bfd_replay.proofs.WorkerCommon.{◌≡◌, ◌≢◌, ◌<◌, ◌≤◌, ◌+◌, ◌++◌, ◌∙◌, ◌∷◌, ℕ, [], List, length, sym, ap, subst, refl, append-nil}
 use Rattle.bfd_replay.proofs.WorkerCommon.{arith, length-append, length-map, map-append, eq-eqb, ne_eqb, dite, ℕ_discrete, SessionConfig}
 use Rattle.bfd_replay.proofs.WorkerCommon.{calls, EngineFault, Shards, Knows, configs_at, seen_at, taken_at, Numbered, Piece, entries_by}
-use Rattle.bfd_replay.proofs.WorkerCommon.{events_in, IsSole, HasDoneEvents, HasTold, IsTurnRefused, IsStopAt, Entry, Memory, Full, Spent}
-use Rattle.bfd_replay.proofs.WorkerCommon.{by, entry_of, given_after, events_of, last_tick, outcome_of, runs, told_runs}
+use Rattle.bfd_replay.proofs.WorkerCommon.{events_in, IsSole, HasDoneEvents, HasReported, IsTurnRefused, IsStopAt, Entry, Memory, Full}
+use Rattle.bfd_replay.proofs.WorkerCommon.{Spent}
+use Rattle.bfd_replay.proofs.WorkerCommon.{by, entry_of, given_after, events_of, last_tick, outcome_of, runs, reported_runs}
 use Rattle.bfd_shard.specs.declared.entry.ShardEvent.{ShardEvent}
 
 pub front_sole : (w : ℕ) (xs ys : List Entry) → IsSole w (xs ++ ys) → IsSole w xs
@@ -53,7 +54,7 @@ given_done w cs es event is = cc (events_entries w es)
 
 -- one more event
 pub done_more : {engine : Shards} {shard : ℕ} {k l : Knows} {done : List Numbered} {e : Numbered} {part part2 : List Piece}
-    → HasTold engine shard e k l part part2
+    → HasReported engine shard e k l part part2
     → l.0 ≡ k.0 → taken_at l shard ≤ taken_at k shard + 1 → HasDoneEvents engine shard k.0 done (seen_at k shard) (taken_at k shard) part
     → HasDoneEvents engine shard l.0 (done ++ e ∷ []) (seen_at l shard) (taken_at l shard) part2
 done_more {engine} {shard} {k} {l} {done} {e} t number taken d =
@@ -68,10 +69,10 @@ done_more {engine} {shard} {k} {l} {done} {e} t number taken d =
     ∙ d.seen_is (sole_first s) in
     record {
       seen_is = λ s. cc (before_is s, map-append (entry_of k.0) (events_in done) (e.event ∷ []), map-append (λ x. x.event) done (e ∷ []));
-      told_is = λ s. cc (
-        d.told_is (sole_first s),
+      reported_is = λ s. cc (
+        d.reported_is (sole_first s),
         given_done k.0 (configs_at engine shard) (events_in done) e.event (before_is s),
-        told_runs done e (configs_at engine shard),
+        reported_runs done e (configs_at engine shard),
       );
       few = omega (arith, d.few, taken, length-append done (e ∷ []));
     }

@@ -3,7 +3,7 @@ pub use Rattle.std.proofs.Common.{List, Option, [], ap, append-nil, append_assoc
 pub use Rattle.std.proofs.Common.{◌++◌, ◌+◌, ◌∙◌, ◌∷◌, ◌≡◌, ◌≤◌}
 pub use Rattle.std.specs.Io.KnownBytes.{Appends}
 pub use Rattle.std.specs.List.{AllByRecursion}
-pub use Rattle.bfd_replay.specs.Telling.{Telling, ToldUpTo}
+pub use Rattle.bfd_replay.specs.PendingLines.{PendingLines, ReportedUpTo}
 pub use Rattle.bfd_replay.specs.Written.{TookFront, TookUpTo}
 pub use Rattle.bfd_replay.specs.Happenings.{Happening, happening_outcomes}
 pub use Rattle.bfd_replay.specs.Planned.{IsMet, happening, happenings, route_is, script_with}

@@ -17,7 +17,7 @@ drops_of ds = sum_by (λ d. d.piece.drops) ds
 pub record Going (all : List Dealt) (parts : List (List Piece)) (before text : List ℕ) (txs drops : ℕ) : Type 0 where
   pub left : List Dealt
   pub spread : IsSpread left parts
-  pub told : text ++ dealt_text left ≡ before ++ dealt_text all
+  pub reported : text ++ dealt_text left ≡ before ++ dealt_text all
   pub sent : txs + txs_of left ≡ txs_of all
   pub dropped : drops + drops_of left ≡ drops_of all
 
@@ -106,15 +106,15 @@ go_by : {all : List Dealt} {parts : List (List Piece)} {before : List ℕ} (text
     → txs + txs_of left ≡ txs_of all → drops + drops_of left ≡ drops_of all
     → Going all (set parts s (drop 1 (get_or parts s []))) before (text ++ first_text (get_or parts s []))
     (txs + first_txs (get_or parts s [])) (drops + first_drops (get_or parts s []))
-go_by {parts} text txs drops {s} [] l h told sent dropped =
+go_by {parts} text txs drops {s} [] l h reported sent dropped =
     absurd (let none = ap first_key (h.each s (inside_of _ l.inside)) in cc (l.there, head_of parts s))
-go_by {parts} text txs drops {s} (d ∷ ds) l h told sent dropped =
+go_by {parts} text txs drops {s} (d ∷ ds) l h reported sent dropped =
     let mine = its d ds _ s h l in
     let is = h.each s (inside_of _ l.inside) ∙ here d ds s mine in
     record {
       left = ds;
       spread = takes d ds _ s h mine (inside_of _ l.inside);
-      told = cc (append_assoc text d.piece.text (dealt_text ds));
+      reported = cc (append_assoc text d.piece.text (dealt_text ds));
       sent = (let more = sum_by-cons (λ x. x.piece.txs) d ds in omega (arith, ap first_txs is, more, sent));
       dropped = (let more = sum_by-cons (λ x. x.piece.drops) d ds in omega (arith, ap first_drops is, more, dropped));
     }
@@ -128,7 +128,7 @@ pub go : {all : List Dealt} {parts parts2 : List (List Piece)} {heads : List (Op
     → Going all parts before text txs drops → Going all parts2 before text2 (txs + count) (drops + fell)
 go {parts} {part} {text} count fell {s} firsts least is e f n m g =
     let l : IsLeast (map first_key parts) s = rw (← firsts) least in
-    rw (e, f, n, m, is ∙ get_or_default parts s part [] (inside_of _ l.inside)) (go_by text _ _ _ l g.spread g.told g.sent g.dropped)
+    rw (e, f, n, m, is ∙ get_or_default parts s part [] (inside_of _ l.inside)) (go_by text _ _ _ l g.spread g.reported g.sent g.dropped)
 
 -- where no part has a piece, none is left
 nothing : (left : List Dealt) {parts : List (List Piece)} → IsSpread left parts

@@ -7,16 +7,17 @@ use Rattle.std.specs.Prelude.{slice_index_or}
 use Rattle.bfd_session.specs.Rows.{Ascends}
 use Rattle.bfd_shard.proofs.Runs.{runs_configs}
 use Rattle.bfd_engine.specs.Engines.{Knows, Shards}
-use Rattle.bfd_replay.specs.Turning.{AllSole, HaveToldTick, HasSeen}
-use Rattle.bfd_replay.specs.Telling.{Telling, ToldUpTo}
-use Rattle.bfd_replay.proofs.Events.{event_front, event_told}
+use Rattle.bfd_replay.specs.Turning.{AllSole, HaveReportedTick, HasSeen}
+use Rattle.bfd_replay.specs.PendingLines.{PendingLines, ReportedUpTo}
+use Rattle.bfd_replay.proofs.Events.{event_front, event_reported}
 use Rattle.bfd_replay.proofs.OneCaller.{given_stands}
-use Rattle.bfd_replay.proofs.Telling.{deal_all}
+use Rattle.bfd_replay.proofs.Dealing.{deal_all}
 use Rattle.bfd_replay.proofs.Whole.{all_drops, all_text, all_txs, parts_spread}
 
 module _ (engine : Shards) (number t : ℕ) (k l : Knows) (parts : List (List Piece)) (past : List ShardEvent)
     (some : 0 < length engine.locks) (ascends : Ascends engine.configs) (long : length parts ≡ length engine.locks + 1)
-    (told : HaveToldTick engine number t (length engine.locks) k l parts) (last : slice_index_or parts (length engine.locks) [] ≡ [])
+    (reported : HaveReportedTick engine number t (length engine.locks) k l parts)
+    (last : slice_index_or parts (length engine.locks) [] ≡ [])
     (sole : AllSole (length engine.locks) l) (stands : HasSeen engine past k) where
   abbrev sessions : List Running
   sessions = runs past engine.configs
@@ -31,7 +32,7 @@ module _ (engine : Shards) (number t : ℕ) (k l : Knows) (parts : List (List Pi
   are = record {
     some = some;
     long = long;
-    each = λ s inside. told s inside (sole s inside)
+    each = λ s inside. reported s inside (sole s inside)
         ∙ (ap (event_pieces number (Tick t)) (given_stands engine k past (Tick t) inside stands) ∙ sym (append-nil _));
     others = last;
     ascends = subst Ascends (sym (runs_configs 0 past engine.configs)) ascends;
@@ -58,16 +59,16 @@ module _ (engine : Shards) (number t : ℕ) (k l : Knows) (parts : List (List Pi
     sum_by-cons dropped tick_outcome [],
   )
 
-  pub tick_was_told : {old new : Option (List ℕ)} (before after : Telling) → number ≡ before.events + 1
+  pub tick_was_reported : {old new : Option (List ℕ)} (before after : PendingLines) → number ≡ before.events + 1
       → TookUpTo old new (before.text ++ dealt_text tick_dealt) after.text
       → after.events ≡ before.events + 1 → after.txs ≡ before.txs + sum_by (λ d. d.piece.txs) tick_dealt
       → after.drops ≡ before.drops + sum_by (λ d. d.piece.drops) tick_dealt
-      → (rest : List Outcome) → ToldUpTo old new before after (tick_outcome ∷ rest) rest
-  tick_was_told {old} {new} before after first lines events txs drops rest =
-      event_told old new before after tick_outcome events (omega (arith, txs, tick_txs)) (omega (arith, drops, tick_drops))
+      → (rest : List Outcome) → ReportedUpTo old new before after (tick_outcome ∷ rest) rest
+  tick_was_reported {old} {new} before after first lines events txs drops rest =
+      event_reported old new before after tick_outcome events (omega (arith, txs, tick_txs)) (omega (arith, drops, tick_drops))
       (subst (λ t. TookUpTo old new t after.text) (cc (tick_text, first)) lines) rest
 
-  pub tick_front : (old new : Option (List ℕ)) (before : Telling) → number ≡ before.events + 1
+  pub tick_front : (old new : Option (List ℕ)) (before : PendingLines) → number ≡ before.events + 1
       → TookFront old new (before.text ++ dealt_text tick_dealt)
       → (rest : List Outcome) → TookFront old new (before.text ++ lines_from (before.events + 1) (tick_outcome ∷ rest))
   tick_front old new before first took rest =

@@ -4,7 +4,8 @@ use Rattle.bfd_replay.proofs.ReportCommon.{ap, ◌∙◌, append-nil, arith, All
 use Rattle.bfd_replay.proofs.ReportCommon.{Out, Outcome, tick_items, Running, discr_of, configs_of, ShardEvent, Own, Tick, later, moved}
 use Rattle.bfd_replay.proofs.ReportCommon.{outcome_of, item_line, event_lines, lines_from, packets_sent_by, packets_sent, dropped}
 use Rattle.bfd_replay.proofs.ReportCommon.{done_line, report, Piece, whole_piece, item_piece, event_pieces, Happening, Apart, Among}
-use Rattle.bfd_replay.proofs.ReportCommon.{happening_outcomes, told_whole, AreParts, Dealt, deal, IsBefore, Ordered, IsSpread, AreGathered}
+use Rattle.bfd_replay.proofs.ReportCommon.{happening_outcomes, whole_pieces, AreParts, Dealt, deal, IsBefore, Ordered, IsSpread}
+use Rattle.bfd_replay.proofs.ReportCommon.{AreGathered}
 use Rattle.bfd_replay.proofs.ReportCommon.{dealt_text, sum_by, moved_configs, flat_map-append, named, each_more, mod-lt}
 use Rattle.bfd_session.specs.Rows.{Ascends}
 use Rattle.bfd_replay.specs.Counts.{counts_of}
@@ -13,7 +14,7 @@ use Rattle.bfd_session.proofs.Naming.{tick_named}
 use Rattle.bfd_replay.proofs.Keys.{earlier, lower}
 use Rattle.bfd_replay.proofs.Scan.{before_or_at}
 use Rattle.bfd_replay.proofs.Taking.{txs_of, drops_of}
-use Rattle.bfd_replay.proofs.Telling.{deal_items, deal_event, deal_all, tick_gives, told_each, apart_is}
+use Rattle.bfd_replay.proofs.Dealing.{deal_items, deal_event, deal_all, tick_gives, reported_each, apart_is}
 
 -- every piece has its part
 
@@ -154,7 +155,7 @@ pub parts_spread : {n number last : ℕ} {hs : List Happening} {ss : List Runnin
     → IsSpread (deal_all n number last hs ss) parts
 parts_spread {n} {number} {last} {hs} {ss} p = record {
   each = λ r h. elim (before_or_at {k = r} n (omega (arith, h, p.long))) [
-    | inl below ↦ p.each r below ∙ told_each number last hs ss p.some below
+    | inl below ↦ p.each r below ∙ reported_each number last hs ss p.some below
     | inr last_one ↦ cc (apart_is number last hs ss p.some)
   ];
   within = rw p.long (all_within number last hs ss p.some);
@@ -185,7 +186,7 @@ event_pieces_are n number last (Own k m event) ss = refl
 event_pieces_are n number last (Tick t) ss = items_pieces n number (tick_items (max last t)) 0 ss ∙ sym (tick_gives number last t ss)
 
 all_pieces : (n number last : ℕ) (hs : List Happening) (ss : List Running)
-    → map (λ (d : Dealt). d.piece) (deal_all n number last hs ss) ≡ told_whole number last hs ss
+    → map (λ (d : Dealt). d.piece) (deal_all n number last hs ss) ≡ whole_pieces number last hs ss
 all_pieces n number last [] ss = refl
 all_pieces n number last (Apart o ∷ hs) ss = cc (all_pieces n (number + 1) last hs ss)
 all_pieces n number last (Among e ∷ hs) ss =
@@ -197,7 +198,7 @@ all_pieces n number last (Among e ∷ hs) ss =
 
 pub parts_gathered : (n number last : ℕ) (hs : List Happening) (ss : List Running) (parts : List (List Piece))
     → AreParts n number last hs ss parts
-    → AreGathered parts (told_whole number last hs ss)
+    → AreGathered parts (whole_pieces number last hs ss)
 parts_gathered n number last hs ss parts p = record {
   dealt = deal_all n number last hs ss;
   spread = parts_spread p;
@@ -338,7 +339,7 @@ pub whole_report : (n last : ℕ) (hs : List Happening) (ss : List Running) (tex
     (done : List ℕ) {events txs drops : ℕ} → length hs ≡ events
     → text ≡ dealt_text (deal_all n 1 last hs ss) → txs ≡ txs_of (deal_all n 1 last hs ss) → drops ≡ drops_of (deal_all n 1 last hs ss)
     → done ≡ done_line events txs drops → more ≡ text ++ done → more ≡ report (happening_outcomes last hs ss)
-whole_report n last hs ss text done count told sends fell is added =
+whole_report n last hs ss text done count reported sends fell is added =
     cc (all_text n 1 last hs ss, one_each last hs ss, all_txs n 1 last hs ss, all_drops n 1 last hs ss)
 
 pub whole_counts : (n last : ℕ) (hs : List Happening) (ss : List Running) {events txs drops : ℕ} → length hs ≡ events

@@ -12,7 +12,7 @@ pub use Rattle.bfd_engine.specs.Calls.{kept_at, made_at, met_word, mine, seen_at
 pub use Rattle.bfd_engine.specs.Engines.{AllThere, IsOf, Knows, Shards, configs_at}
 pub use Rattle.bfd_engine.specs.Passes.{AreClosed, EachJoined, IsClosed, Joined, Parted}
 pub use Rattle.bfd_engine.specs.declared.fault.EngineFault.{EngineFault}
-pub use Rattle.bfd_replay.specs.Happenings.{Among, Apart, AreParts, Happening, in_shard, numbered, queue, told_apart}
+pub use Rattle.bfd_replay.specs.Happenings.{Among, Apart, AreParts, Happening, in_shard, numbered, queue, apart_pieces}
 pub use Rattle.bfd_replay.specs.Pieces.{Piece}
 pub use Rattle.bfd_replay.specs.declared.report.queue.Numbered.{Numbered}
 pub use Rattle.bfd_replay.proofs.Worlds.{left_is, world_is}
@@ -24,7 +24,7 @@ pub use Rattle.bfd_turn.specs.Lists.{calls, has, numbers_of}
 pub use Rattle.bfd_replay.specs.Counts.{one_up, sum_to, ups}
 pub use Rattle.bfd_replay.specs.Jobs.{AllJobsJoined, AreJobs, AreOwn, HasEnded, HasWorkedOn, IsFreshAt, IsJoining, IsNewJob, JobsAreJoined}
 pub use Rattle.bfd_replay.specs.Jobs.{Work, number_of, own_queue, seen_as}
-pub use Rattle.bfd_replay.specs.Working.{AreMet, HasDoneAt, HasDoneEvents, HasFinished, HasLeft, HasStopped, HasTold, HasUsedAt}
+pub use Rattle.bfd_replay.specs.Working.{AreMet, HasDoneAt, HasDoneEvents, HasFinished, HasLeft, HasStopped, HasReported, HasUsedAt}
 pub use Rattle.bfd_replay.specs.Working.{IsElsewhere, IsIdle, IsSole, IsStopAt, IsTurnRefused, IsWorkerReady, entries_by, events_in}
 pub use mathlib.Core.Logic.{dite}
 pub use native.Mathlib.Decide.{ℕ_discrete}
@@ -33,11 +33,11 @@ pub use Rattle.bfd_script.specs.Reading.{Lists}
 pub use Rattle.bfd_shard.specs.declared.entry.Entry.{Entry}
 pub use Rattle.bfd_engine.specs.declared.fault.EngineFault.TheVariants.{Full, Memory, Spent}
 pub use Rattle.bfd_engine.specs.Turned.{by, entry_of, given_after}
-pub use Rattle.bfd_replay.specs.Ends.{AreStates, AreTold, HasToldShards, IsDoneJob, IsFine, IsState}
+pub use Rattle.bfd_replay.specs.Ends.{AreStates, AreReported, HasReportedShards, IsDoneJob, IsFine, IsState}
 pub use Rattle.bfd_engine.specs.Opening.{IsNewPass}
 pub use Rattle.bfd_instance.specs.World.{replayed, totals, world}
 pub use Rattle.bfd_shard.proofs.Lists.{put_other}
 pub use Rattle.bfd_shard.specs.History.{events_of, last_tick, later, moved, outcome_of, runs}
-pub use Rattle.bfd_replay.proofs.Histories.{queue_events, runs_share, told_runs}
+pub use Rattle.bfd_replay.proofs.Histories.{queue_events, runs_share, reported_runs}
 pub use Rattle.bfd_sbfd.specs.declared.reflecting.Reflector.{Reflector}
 pub use Rattle.bfd_session.specs.Kinds.{Running}

@@ -5,7 +5,7 @@ use Rattle.bfd_sbfd.specs.declared.reflecting.Reflector.{Reflector}
 use Rattle.bfd_session.specs.declared.event.SessionConfig.{SessionConfig}
 use Rattle.bfd_session.specs.Tables.{members}
 use Rattle.bfd_script.specs.declared.line.entries.Line.{Line}
-use Rattle.bfd_replay.specs.Happenings.{told_apart}
+use Rattle.bfd_replay.specs.Happenings.{apart_pieces}
 use Rattle.bfd_replay.specs.Planned.{AreQueues, IsMet, happenings}
 use Rattle.bfd_replay.specs.declared.plan.plan.Plan.{Plan}
 
@@ -14,5 +14,5 @@ use Rattle.bfd_replay.specs.declared.plan.plan.Plan.{Plan}
 pub record IsBeginning (configs : List SessionConfig) (pool : List Reflector) (events : List Line) (shards : ℕ) (plan : Plan) : Type 0 where
   pub table : plan.table ≡ members configs pool
   pub queues : AreQueues shards (happenings configs pool events) plan.queues.items
-  pub apart : plan.apart ≡ told_apart 1 (happenings configs pool events)
+  pub apart : plan.apart ≡ apart_pieces 1 (happenings configs pool events)
   pub met : AllByRecursion (IsMet configs) (happenings configs pool events)

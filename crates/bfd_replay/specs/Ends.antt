@@ -8,7 +8,7 @@ use Rattle.bfd_engine.specs.declared.fault.EngineFault.TheVariants.{Memory, Full
 use Rattle.bfd_engine.specs.Engines.{Shards, configs_at}
 use Rattle.bfd_replay.specs.declared.report.queue.Numbered.{Numbered}
 use Rattle.bfd_replay.specs.Pieces.{Piece}
-use Rattle.bfd_replay.specs.Happenings.{shard_tells}
+use Rattle.bfd_replay.specs.Happenings.{shard_pieces}
 use Rattle.bfd_replay.specs.Working.{entries_by, events_in, HasUsedAt}
 use Rattle.bfd_replay.specs.Jobs.{AreOwn, HasEnded, Work, own_queue}
 use Rattle.bfd_engine.specs.Engines.{IsOf, AllThere}
@@ -22,7 +22,7 @@ pub record IsDoneJob (engine : Shards) (queues : List (List Numbered)) (workers 
       → HasUsedAt w.pass shard (own_queue workers at shard (slice_index_or queues shard []))
   pub mine : List (List Numbered)
   pub own : AreOwn workers at queues mine
-  pub ended : HasEnded engine mine w.pass w.told
+  pub ended : HasEnded engine mine w.pass w.reported
 
 -- it ended with a part of each shard, or it ran out of memory
 abbrev pub IsFine : Result (List (List Piece)) EngineFault → Type 0
@@ -32,19 +32,19 @@ IsFine (Err (Full at n)) = ⊥
 IsFine (Err (Spent at word)) = ⊥
 
 -- what the worker at this place of so many reported of each shard that it handles, if it ended with parts: its queue's events
-abbrev pub HasToldShards : Shards → List (List Numbered) → ℕ → ℕ → Result (List (List Piece)) EngineFault → Type 0
-HasToldShards engine queues workers at (Err fault) = Unit {0}
-HasToldShards engine queues workers at (Ok parts) = (length parts ≡ length engine.locks)
+abbrev pub HasReportedShards : Shards → List (List Numbered) → ℕ → ℕ → Result (List (List Piece)) EngineFault → Type 0
+HasReportedShards engine queues workers at (Err fault) = Unit {0}
+HasReportedShards engine queues workers at (Ok parts) = (length parts ≡ length engine.locks)
     × ((shard : ℕ) → shard < length engine.locks → shard % workers ≡ at
-    → slice_index_or parts shard [] ≡ shard_tells 0 (slice_index_or queues shard []) (map started (configs_at engine shard)))
+    → slice_index_or parts shard [] ≡ shard_pieces 0 (slice_index_or queues shard []) (map started (configs_at engine shard)))
 
 -- the workers' parts: shard by shard its queue's events, reported by its worker
-pub record AreTold (engine : Shards) (queues : List (List Numbered)) (workers : ℕ) (all : List (List (List Piece))) : Type 0 where
+pub record AreReported (engine : Shards) (queues : List (List Numbered)) (workers : ℕ) (all : List (List (List Piece))) : Type 0 where
   pub long : length all ≡ workers
   pub wide : (at : ℕ) → at < workers → length (slice_index_or all at []) ≡ length engine.locks
   pub each : (shard : ℕ) → shard < length engine.locks
       → slice_index_or (slice_index_or all (shard % workers) []) shard []
-      ≡ shard_tells 0 (slice_index_or queues shard []) (map started (configs_at engine shard))
+      ≡ shard_pieces 0 (slice_index_or queues shard []) (map started (configs_at engine shard))
 
 -- a closed shard: it is built from its configurations, and its journal has only the queue's events, all brought by its worker
 pub record IsState (engine : Shards) (queues : List (List Numbered)) (workers number : ℕ) (shard : Shard) : Type 0 where

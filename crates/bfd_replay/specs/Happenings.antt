@@ -50,24 +50,24 @@ AreQueued number event before after = (shard : ℕ) → shard < length before
     ++ cons_option (numbered number (event_in (length before) shard event)) []
 
 -- what a shard reports of its events, from these sessions of its own and this last tick on
-abbrev pub shard_tells : ℕ → List Numbered → List Running → List Piece
-shard_tells last [] sessions = []
-shard_tells last (e ∷ rest) sessions =
-    event_pieces e.number e.event (outcome_of last e.event sessions) ++ shard_tells (later last e.event) rest (moved last e.event sessions)
+abbrev pub shard_pieces : ℕ → List Numbered → List Running → List Piece
+shard_pieces last [] sessions = []
+shard_pieces last (e ∷ rest) sessions =
+    event_pieces e.number e.event (outcome_of last e.event sessions) ++ shard_pieces (later last e.event) rest (moved last e.event sessions)
 
 -- what one shard with the whole table would report of all these events; the first has this number
-abbrev pub told_whole : ℕ → ℕ → List Happening → List Running → List Piece
-told_whole number last [] sessions = []
-told_whole number last (Apart outcome ∷ rest) sessions = whole_piece number outcome ∷ told_whole (number + 1) last rest sessions
-told_whole number last (Among event ∷ rest) sessions =
+abbrev pub whole_pieces : ℕ → ℕ → List Happening → List Running → List Piece
+whole_pieces number last [] sessions = []
+whole_pieces number last (Apart outcome ∷ rest) sessions = whole_piece number outcome ∷ whole_pieces (number + 1) last rest sessions
+whole_pieces number last (Among event ∷ rest) sessions =
     event_pieces number event (outcome_of last event sessions)
-    ++ told_whole (number + 1) (later last event) rest (moved last event sessions)
+    ++ whole_pieces (number + 1) (later last event) rest (moved last event sessions)
 
 -- what is reported of the events of no session; the first of all these events has this number
-abbrev pub told_apart : ℕ → List Happening → List Piece
-told_apart number [] = []
-told_apart number (Apart outcome ∷ rest) = whole_piece number outcome ∷ told_apart (number + 1) rest
-told_apart number (Among event ∷ rest) = told_apart (number + 1) rest
+abbrev pub apart_pieces : ℕ → List Happening → List Piece
+apart_pieces number [] = []
+apart_pieces number (Apart outcome ∷ rest) = whole_piece number outcome ∷ apart_pieces (number + 1) rest
+apart_pieces number (Among event ∷ rest) = apart_pieces (number + 1) rest
 
 -- the parts of a replay of these events on so many shards; the first event has this number. They are what each shard reports,
 -- and last what is reported of the events of no session
@@ -75,6 +75,6 @@ pub record AreParts (shards number last : ℕ) (events : List Happening) (sessio
   pub some : 0 < shards
   pub long : length parts ≡ shards + 1
   pub each : (shard : ℕ) → shard < shards
-      → slice_index_or parts shard [] ≡ shard_tells last (queue shards shard number events) (share shards shard sessions)
-  pub others : slice_index_or parts shards [] ≡ told_apart number events
+      → slice_index_or parts shard [] ≡ shard_pieces last (queue shards shard number events) (share shards shard sessions)
+  pub others : slice_index_or parts shards [] ≡ apart_pieces number events
   pub ascends : Ascends (configs_of sessions)

@@ -18,7 +18,7 @@ seen_as f (Err e) = Err e
 pub record Work : Type 0 where
   pub pass : Knows
   pub queues : List (List Numbered)
-  pub told : Result (List (List Piece)) EngineFault
+  pub reported : Result (List (List Piece)) EngineFault
 
 -- how a worker ended
 abbrev pub HasEnded : Shards → List (List Numbered) → Knows → Result (List (List Piece)) EngineFault → Type 0
@@ -28,7 +28,7 @@ HasEnded engine queues l (Err fault) = HasStopped engine queues l fault
 -- a job before and after it was worked on
 pub record HasWorkedOn (engine : Shards) (before after : Work) : Type 0 where
   pub left : HasLeft engine before.queues before.pass after.pass
-  pub ended : HasEnded engine before.queues after.pass after.told
+  pub ended : HasEnded engine before.queues after.pass after.reported
 
 -- what the worker at this place of so many has of a shard's queue: the shard is its own if the shard's number, divided by the
 -- number of workers, leaves the place

@@ -7,7 +7,7 @@ pub mod Cutting
 pub mod Written
 pub mod Working
 pub mod Turning
-pub mod Telling
+pub mod PendingLines
 pub mod Jobs
 pub mod Ends
 pub mod Counts

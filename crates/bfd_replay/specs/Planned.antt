@@ -20,7 +20,7 @@ use Rattle.bfd_script.specs.Doing.{Doing, Rests, Reflects, Happens, Passes, doin
 use Rattle.bfd_script.specs.Reading.{Lists}
 use Rattle.bfd_replay.specs.declared.report.queue.Numbered.{Numbered}
 use Rattle.bfd_replay.specs.Pieces.{Piece}
-use Rattle.bfd_replay.specs.Happenings.{Happening, Apart, Among, session_event, in_shard, numbered, queue, told_apart}
+use Rattle.bfd_replay.specs.Happenings.{Happening, Apart, Among, session_event, in_shard, numbered, queue, apart_pieces}
 use Rattle.bfd_replay.specs.declared.plan.runs.Run.{Run}
 use Rattle.bfd_replay.specs.declared.plan.routing.Route.{Route}
 use Rattle.bfd_replay.specs.declared.plan.routing.Route.TheVariants as routes
@@ -78,7 +78,7 @@ pub record IsPlanned (number : ℕ) (h : Happening) (before after : List (List N
   pub queued : (shard : ℕ) → shard < length before
       → slice_index_or after shard [] ≡ slice_index_or before shard []
       ++ cons_option (numbered number (in_shard (length before) shard h)) []
-  pub told : apart2 ≡ apart ++ told_apart number (h ∷ [])
+  pub reported : apart2 ≡ apart ++ apart_pieces number (h ∷ [])
 
 -- runs of lines one after another; the first line has this number
 abbrev pub Follow : ℕ → List Run → Type 0
@@ -99,7 +99,7 @@ pub record IsRunPlanned (configs : List SessionConfig) (pool : List Reflector) (
     (queues : List (List Numbered)) (apart : List Piece) : Type 0 where
   pub long : length queues ≡ shards
   pub queued : (shard : ℕ) → shard < shards → slice_index_or queues shard [] ≡ queue shards shard first (happenings configs pool lines)
-  pub told : apart ≡ told_apart first (happenings configs pool lines)
+  pub reported : apart ≡ apart_pieces first (happenings configs pool lines)
   pub met : AllByRecursion (IsMet configs) (happenings configs pool lines)
 
 abbrev pub IsPlanOf : List SessionConfig → List Reflector → ℕ → Run → Vec (Vec Numbered) × List Piece → Type 0

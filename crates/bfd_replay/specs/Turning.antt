@@ -84,6 +84,6 @@ Gave engine k l h outcome = IsOfOne (length engine.locks) h → AllSole (length 
     → outcome ≡ outcome_in (last_tick past) h (runs past engine.configs)
 
 -- what the shards before a place report of a tick of this number, each if caller 0 is its only one
-abbrev pub HaveToldTick : Shards → ℕ → ℕ → ℕ → Knows → Knows → List (List Piece) → Type 0
-HaveToldTick engine number t at k l parts = (r : ℕ) → r < at → IsSole 0 (seen_at l r)
+abbrev pub HaveReportedTick : Shards → ℕ → ℕ → ℕ → Knows → Knows → List (List Piece) → Type 0
+HaveReportedTick engine number t at k l parts = (r : ℕ) → r < at → IsSole 0 (seen_at l r)
     → slice_index_or parts r [] ≡ event_pieces number (Tick t) (given_after (configs_at engine r) (seen_at k r) (Tick t))

@@ -15,7 +15,7 @@ use Rattle.bfd_engine.specs.Engines.{Shards, Knows, IsOf, AllThere, configs_at}
 use Rattle.bfd_engine.specs.Calls.{seen_at, met_word, taken_at}
 use Rattle.bfd_replay.specs.declared.report.queue.Numbered.{Numbered}
 use Rattle.bfd_replay.specs.Pieces.{Piece, event_pieces}
-use Rattle.bfd_replay.specs.Happenings.{shard_tells}
+use Rattle.bfd_replay.specs.Happenings.{shard_pieces}
 
 -- the entries of these events, all brought by this caller
 abbrev pub entries_by : ℕ → List ShardEvent → List Entry
@@ -38,7 +38,7 @@ IsSole caller seen = AllByRecursion (λ entry. by entry ≡ caller) seen
 pub record HasDoneEvents (engine : Shards) (shard caller : ℕ) (done : List Numbered) (seen : List Entry) (taken : ℕ)
     (part : List Piece) : Type 0 where
   pub seen_is : IsSole caller seen → seen ≡ entries_by caller (events_in done)
-  pub told_is : IsSole caller seen → part ≡ shard_tells 0 done (map started (configs_at engine shard))
+  pub reported_is : IsSole caller seen → part ≡ shard_pieces 0 done (map started (configs_at engine shard))
   pub few : taken ≤ length done
 
 -- why it stopped at an event of the queue: out of memory; a full journal, which has fewer entries than the queue if it is the only
@@ -53,7 +53,7 @@ abbrev pub IsStopAt : EngineFault → Shards → ℕ → ℕ → Knows → Type 
 IsStopAt fault engine shard most l = IsStop fault engine.limit l.0 most (seen_at l shard) (met_word l shard)
 
 -- a turn of a shard, which it took with an event and reported
-pub record HasTold (engine : Shards) (shard : ℕ) (e : Numbered) (k l : Knows) (part part2 : List Piece) : Type 0 where
+pub record HasReported (engine : Shards) (shard : ℕ) (e : Numbered) (k l : Knows) (part part2 : List Piece) : Type 0 where
   pub between : List Entry
   pub others : calls by k.0 between ≡ []
   pub here : seen_at l shard ≡ (seen_at k shard ++ between) ++ entry_of k.0 e.event ∷ []

@@ -27,7 +27,7 @@ mod threads;
 pub(crate) use counts::added;
 pub use counts::{Counts, dropped, sent};
 pub(crate) use giving::give_all;
-pub use law::{dealing_laws, telling_laws};
+pub use law::{dealing_laws, piece_laws};
 pub use output::{give_on, write_all, write_each};
 pub use part::Part;
 pub use queue::{Numbered, queue_event};

@@ -6,7 +6,7 @@
 //! of it.
 //!
 //! Modules: `opening` opens the engine of a script, `turning` is one line, which a watch uses too, `ticking` a tick of several shards,
-//! whose parts are put together, `telling` the text and the counts so far, `reporting` the whole.
+//! whose parts are put together, `pending` the text and the counts so far, `reporting` the whole.
 //!
 //! It promises that a sink which doesn't fail accepts the report of `bfd_instance`'s `specs/World.antt`, byte for byte, as the replays on
 //! several shards give it too; that any sink accepts a prefix of it; and that each shard, once closed, was built from the sessions that are
@@ -14,8 +14,8 @@
 //! know that nobody else takes a turn: the closed engine shows it.
 
 mod opening;
+mod pending;
 mod reporting;
-mod telling;
 mod ticking;
 mod turning;
 

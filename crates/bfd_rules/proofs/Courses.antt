@@ -44,10 +44,10 @@ one_more : (P : Out → Type 0) (os : List Out) {o : Out} → AllByRecursion P o
 one_more P [] h own = (own, tt)
 one_more P (x ∷ os) h own = (h.0, one_more P os h.1 own)
 
-told_by : (P : Out → Type 0) (os : List Out) {o : Out} (same : Bool) → AllByRecursion P os → P o
+announced_by : (P : Out → Type 0) (os : List Out) {o : Out} (same : Bool) → AllByRecursion P os → P o
     → AllByRecursion P (os ++ (if same then [] else o ∷ []))
-told_by P os true h own = rw (append-nil os) h
-told_by P os false h own = one_more P os h own
+announced_by P os true h own = rw (append-nil os) h
+announced_by P os false h own = one_more P os h own
 
 -- what is true of each output of both courses is true of those of the one that is chosen
 pub chosen_names : (P : Out → Type 0) (b : Bool) (x y : Course) → AllByRecursion P x.outs → AllByRecursion P y.outs
@@ -59,7 +59,7 @@ chosen_names P false x y hx hy = hy
 pub changes_names : (discr : ℕ) (P : Out → Type 0) (v : Vars) (s : Course) → OfOwn discr P → AllByRecursion P s.outs
     → AllByRecursion P (changes discr v s).outs
 unfolding changes
-changes_names discr P v s own h = told_by P s.outs (same_state s.vars.state v.state) h (own.of_changes s.vars.state v.state v.diag)
+changes_names discr P v s own h = announced_by P s.outs (same_state s.vars.state v.state) h (own.of_changes s.vars.state v.state v.diag)
 
 -- a datagram names the discriminator
 pub sends_names : (discr : ℕ) (P : Out → Type 0) (datagram : Datagram) (s : Course) → OfOwn discr P → AllByRecursion P s.outs

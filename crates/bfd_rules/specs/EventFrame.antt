@@ -36,8 +36,8 @@ begins v =
     record { state = v.state; diag = v.diag; interval = tx_interval v; one = v.mult == 1; moved = false; answered = false }
 
 -- a change of the session's state is reported
-abbrev pub told : ℕ → Vars → Vars → List Out
-told discr before after =
+abbrev pub changed_between : ℕ → Vars → Vars → List Out
+changed_between discr before after =
     if same_state before.state after.state then [] else Changed discr before.state after.state after.diag ∷ []
 
 -- the session enters a state with this diagnostic
@@ -46,7 +46,7 @@ enters state diag v = record v { state = state; diag = diag }
 
 -- the variables become v, and a change of the state is reported
 unfoldable pub changes : ℕ → Vars → Course → Course
-changes discr v s = record s { vars = v; outs = s.outs ++ told discr s.vars v }
+changes discr v s = record s { vars = v; outs = s.outs ++ changed_between discr s.vars v }
 
 -- a datagram is sent
 unfoldable pub sends : ℕ → Datagram → Course → Course
@@ -57,12 +57,12 @@ abbrev pub is_news : Mark → Vars → Bool
 is_news m v = not (same_state v.state m.state && (v.diag == m.diag))
 
 -- a periodic packet carries the present state and diagnostic to the peer, and moves the base
-abbrev pub tells : Vars → Mark → Mark
-tells v m = record m { moved = true; state = v.state; diag = v.diag }
+abbrev pub announces : Vars → Mark → Mark
+announces v m = record m { moved = true; state = v.state; diag = v.diag }
 
 -- news that is still to be sent: no packet with F has carried it, and a packet may be sent (section 6.8.7)
-abbrev pub is_untold : Bool → Mark → Vars → Bool
-is_untold active m v = is_news m v && not m.answered && may_send active v
+abbrev pub is_unannounced : Bool → Mark → Vars → Bool
+is_unannounced active m v = is_news m v && not m.answered && may_send active v
 
 -- one packet outside the period was sent: it moves the base
 abbrev pub based : ℕ → Course → Course

@@ -85,8 +85,8 @@ pub fn sends(discr: u32, datagram: Datagram, outs: &mut Outs)
 }
 
 /// A periodic packet sends the present state and diagnostic to the peer.
-pub fn tells(v: &Vars, mark: &mut Mark)
-    ensures { mark.new ≡ frame.tells v.now mark.old }
+pub fn announces(v: &Vars, mark: &mut Mark)
+    ensures { mark.new ≡ frame.announces v.now mark.old }
 {
     mark.moved = true;
     mark.state = v.state;
@@ -102,8 +102,8 @@ fn is_news(mark: &Mark, v: &Vars) -> bool
 
 /// A state or diagnostic that wasn't sent to the peer is to be sent now: no packet with F has sent it, and a packet
 /// may be sent (section 6.8.7).
-pub fn is_untold(active: bool, mark: &Mark, v: &Vars) -> bool
-    ensures { result ≡ frame.is_untold active mark.now v.now }
+pub fn is_unannounced(active: bool, mark: &Mark, v: &Vars) -> bool
+    ensures { result ≡ frame.is_unannounced active mark.now v.now }
 {
     is_news(mark, v) && !mark.answered && may_send(active, v)
 }

@@ -20,7 +20,7 @@ mod verdict;
 
 pub use commands::{Cmd, Refusal};
 pub use config::{Config, LEAST_INTERVAL, MOST_INTERVAL, Role, is_interval};
-pub use frame::{begins, changes, draw, drawn, enters, is_untold, sends, stamped, tells};
+pub use frame::{announces, begins, changes, draw, drawn, enters, is_unannounced, sends, stamped};
 pub use jitter::pick;
 pub use outputs::{Out, Outs};
 pub use quantities::{

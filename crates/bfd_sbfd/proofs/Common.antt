@@ -6,7 +6,7 @@ pub use Rattle.bfd_num.specs.Due.{has_come}
 pub use Rattle.bfd_num.specs.Numbers.{floor_tick, moment_bound, next_j}
 pub use Rattle.bfd_packet.specs.Layout.{fields_of}
 pub use Rattle.bfd_packet.specs.declared.control.Control.{Control}
-pub use Rattle.bfd_rules.specs.EventFrame.{Course, based, begins, course, draws, is_untold, stamped}
+pub use Rattle.bfd_rules.specs.EventFrame.{Course, based, begins, course, draws, is_unannounced, stamped}
 unfoldable pub use Rattle.bfd_rules.specs.EventFrame.{changes, drawn, redrawn, sends}
 pub use Rattle.bfd_rules.specs.Quantities.{is_admin_down, may_send, tx_interval}
 pub use Rattle.bfd_rules.specs.declared.commands.Cmd.{Cmd}

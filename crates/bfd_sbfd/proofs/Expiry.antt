@@ -1,6 +1,6 @@
 -- A tick forgets the last answer exactly when the deadline has come by its limit.
 use Rattle.bfd_sbfd.proofs.Common.{◌≡◌, ◌&&◌, ◌↔◌, ◌∙◌, ℕ, Bool, true, false, refl, None, IsSome, if◌then◌else◌, floor_tick, has_come}
-use Rattle.bfd_sbfd.proofs.Common.{may_send, Course, changes, sends, is_untold, redrawn, InitiatorConfig, deadline, moves, transmits}
+use Rattle.bfd_sbfd.proofs.Common.{may_send, Course, changes, sends, is_unannounced, redrawn, InitiatorConfig, deadline, moves, transmits}
 use Rattle.bfd_rules.proofs.Heard.{alike, drawn_heard, exactly}
 use Rattle.bfd_sbfd.specs.Settle as settling
 use Rattle.bfd_sbfd.specs.Finish as finishing
@@ -27,7 +27,7 @@ settle_heard c limit eff s = periodic_heard c limit eff (settling.detection c li
 
 extra_heard : (c : InitiatorConfig) (eff : ℕ) (s : Course) → (finishing.extra c eff s).vars.heard ≡ s.vars.heard
 unfolding finishing.extra transmits sends
-extra_heard c eff s = alike (is_untold true s.mark s.vars) _ s s.vars.heard refl refl
+extra_heard c eff s = alike (is_unannounced true s.mark s.vars) _ s s.vars.heard refl refl
 
 finish_heard : (c : InitiatorConfig) (eff : ℕ) (s : Course) → (finishing.finish c eff s).vars.heard ≡ s.vars.heard
 unfolding finishing.finish redrawn

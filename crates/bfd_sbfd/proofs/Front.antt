@@ -1,6 +1,7 @@
 -- What was emitted before stays ahead of what an initiator's rules emit, and changes nothing else of them.
 use Rattle.bfd_sbfd.proofs.Common.{◌≡◌, ◌&&◌, ℕ, true, List, refl, is_some, Control, fields_of, floor_tick, has_come, Cmd, Out, Vars}
-use Rattle.bfd_sbfd.proofs.Common.{may_send, is_admin_down, Course, is_untold, based, redrawn, InitiatorConfig, deadline, moves, transmits}
+use Rattle.bfd_sbfd.proofs.Common.{may_send, is_admin_down, Course, is_unannounced, based, redrawn, InitiatorConfig, deadline, moves}
+use Rattle.bfd_sbfd.proofs.Common.{transmits}
 use Rattle.bfd_sbfd.proofs.Common.{refusal, commanded, done, after, either, changes-after, sends-after}
 use Rattle.bfd_sbfd.specs.Settle as settling
 use Rattle.bfd_sbfd.specs.Receive as receiving
@@ -62,14 +63,14 @@ pub commanded-after : (c : InitiatorConfig) (cmd : Cmd) (os : List Out) (s : Cou
 unfolding commanded
 commanded-after c cmd os s = either os (is_some (refusal s.vars cmd)) s _ _ _ refl (moves-after c.discr (done cmd s.vars) os s)
 
-told-after : (c : InitiatorConfig) (eff : ℕ) (os : List Out) (s : Course)
+announced-after : (c : InitiatorConfig) (eff : ℕ) (os : List Out) (s : Course)
     → based eff (transmits c (after os s)) ≡ after os (based eff (transmits c s))
-told-after c eff os s = rw transmits-after refl
+announced-after c eff os s = rw transmits-after refl
 
 extra-after : (c : InitiatorConfig) (eff : ℕ) (os : List Out) (s : Course)
     → finishing.extra c eff (after os s) ≡ after os (finishing.extra c eff s)
 unfolding finishing.extra
-extra-after c eff os s = either os (is_untold true s.mark s.vars) _ s _ _ (told-after c eff os s) refl
+extra-after c eff os s = either os (is_unannounced true s.mark s.vars) _ s _ _ (announced-after c eff os s) refl
 
 pub finish-after : (c : InitiatorConfig) (eff : ℕ) (os : List Out) (s : Course)
     → finishing.finish c eff (after os s) ≡ after os (finishing.finish c eff s)

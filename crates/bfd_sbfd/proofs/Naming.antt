@@ -1,6 +1,7 @@
 -- Each output of an initiator names its discriminator: what is true of each output that does stays true of all outputs.
 use Rattle.bfd_sbfd.proofs.Common.{◌&&◌, ℕ, true, List, is_some, Control, fields_of, floor_tick, has_come, Cmd, Out, Vars, may_send}
-use Rattle.bfd_sbfd.proofs.Common.{is_admin_down, Course, is_untold, based, redrawn, InitiatorConfig, deadline, moves, transmits, refusal}
+use Rattle.bfd_sbfd.proofs.Common.{is_admin_down, Course, is_unannounced, based, redrawn, InitiatorConfig, deadline, moves, transmits}
+use Rattle.bfd_sbfd.proofs.Common.{refusal}
 use Rattle.bfd_sbfd.proofs.Common.{commanded, done, OfOwn, own_name, chosen_names, changes_names, sends_names, AllByRecursion}
 use Rattle.bfd_sbfd.specs.Settle as settling
 use Rattle.bfd_sbfd.specs.Receive as receiving
@@ -66,7 +67,8 @@ commanded_names c P cmd s own h =
 extra_names : (c : InitiatorConfig) (P : Out → Type 0) (eff : ℕ) (s : Course) → OfOwn c.discr P → AllByRecursion P s.outs
     → AllByRecursion P (finishing.extra c eff s).outs
 unfolding finishing.extra
-extra_names c P eff s own h = chosen_names P (is_untold true s.mark s.vars) (based eff (transmits c s)) s (transmits_names c P s own h) h
+extra_names c P eff s own h = chosen_names P (is_unannounced true s.mark s.vars) (based eff (transmits c s)) s (transmits_names c P s own h)
+    h
 
 pub finish_names : (c : InitiatorConfig) (P : Out → Type 0) (eff : ℕ) (s : Course) → OfOwn c.discr P → AllByRecursion P s.outs
     → AllByRecursion P (finishing.finish c eff s).outs

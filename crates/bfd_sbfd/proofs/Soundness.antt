@@ -1,7 +1,7 @@
 -- Each part of an event keeps variables steady, and the end of an event makes them sound.
 use Rattle.bfd_sbfd.proofs.Common.{◌≡◌, ◌^◌, ◌<◌, ◌&&◌, ℕ, Bool, true, false, refl, Some, IsSome, is_some, List, arith, if◌then◌else◌}
 use Rattle.bfd_sbfd.proofs.Common.{Control, fields_of, moment_bound, floor_tick, has_come, Cmd, Vars, may_send, is_admin_down, Course}
-use Rattle.bfd_sbfd.proofs.Common.{changes, sends, stamped, is_untold, based, redrawn, InitiatorConfig, deadline, IsInitiatorPlain}
+use Rattle.bfd_sbfd.proofs.Common.{changes, sends, stamped, is_unannounced, based, redrawn, InitiatorConfig, deadline, IsInitiatorPlain}
 use Rattle.bfd_sbfd.proofs.Common.{IsInitiatorSteady}
 use Rattle.bfd_sbfd.proofs.Common.{IsInitiatorSound, moves, in_use, transmits, refusal, commanded, done, common_steps, nat_tests}
 use Rattle.bfd_packet.specs.declared.control.State.{State}
@@ -136,7 +136,7 @@ commanded_steady cmd s steady = command_by cmd s (is_some (refusal s.vars cmd)) 
 extra_steady : {c : InitiatorConfig} {eff : ℕ} (s : Course) → eff < moment_bound → IsInitiatorSteady c s.vars
     → IsInitiatorSteady c (finishing.extra c eff s).vars
 unfolding finishing.extra transmits sends
-extra_steady {c} {eff} s h steady = choice_steady (is_untold true s.mark s.vars) (based eff (transmits c s)) s (based_steady h steady)
+extra_steady {c} {eff} s h steady = choice_steady (is_unannounced true s.mark s.vars) (based eff (transmits c s)) s (based_steady h steady)
     steady
 
 finish_sound : {c : InitiatorConfig} {eff : ℕ} (s : Course) → eff < moment_bound → IsInitiatorSteady c s.vars

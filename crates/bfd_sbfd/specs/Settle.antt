@@ -6,7 +6,7 @@ use Rattle.bfd_num.specs.Numbers.{floor_tick}
 use Rattle.bfd_num.specs.Due.{has_come}
 use Rattle.bfd_rules.specs.declared.variables.Vars.{Vars}
 use Rattle.bfd_rules.specs.Quantities.{may_send}
-use Rattle.bfd_rules.specs.EventFrame.{Course, enters, tells}
+use Rattle.bfd_rules.specs.EventFrame.{Course, enters, announces}
 use Rattle.bfd_sbfd.specs.declared.config.InitiatorConfig.{InitiatorConfig}
 use Rattle.bfd_sbfd.specs.Waiting.{deadline}
 use Rattle.bfd_sbfd.specs.Frame.{moves}
@@ -24,7 +24,7 @@ detection c limit s = if has_come limit (deadline s.vars) then moves c.discr (si
 unfoldable pub periodic_packet : InitiatorConfig → ℕ → Course → Course
 periodic_packet c eff s =
     let sent : Course = transmits c s in
-    record sent { vars = record s.vars { base = eff }; mark = tells s.vars s.mark }
+    record sent { vars = record s.vars { base = eff }; mark = announces s.vars s.mark }
 
 -- 2. Periodic: a periodic packet is due (RFC 5880 section 6.8.7); an initiator is active
 unfoldable pub periodic : InitiatorConfig → ℕ → ℕ → Course → Course

@@ -11,7 +11,7 @@ ghost use Rattle.bfd_sbfd.specs.Over.{IsSettled};
 
 use crate::InitiatorConfig;
 use crate::transmitting::transmits;
-use bfd_rules::{Mark, Outs, Vars, drawn, is_untold};
+use bfd_rules::{Mark, Outs, Vars, drawn, is_unannounced};
 
 /// A changed state or diagnostic is sent immediately, unless none may be sent.
 #[tactic(auto, unfolding(crate::specs::Finish::extra))]
@@ -30,7 +30,7 @@ fn extra(config: &InitiatorConfig, eff: u64, vars: &mut Vars, mark: &mut Mark, o
     ensures spare { outs.old.spare ≤ outs.new.spare + 1 }
     ensures room { outs.new.room ≡ outs.old.room }
 {
-    if is_untold(true, mark, vars) {
+    if is_unannounced(true, mark, vars) {
         transmits(config, vars, outs);
         vars.base = eff;
         mark.moved = true;

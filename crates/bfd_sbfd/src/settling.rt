@@ -17,7 +17,7 @@ use crate::transmitting::transmits;
 use crate::waiting::deadline;
 use bfd_num::{floor_tick, has_come};
 use bfd_packet::State;
-use bfd_rules::{Mark, Outs, Vars, enters, may_send, tells};
+use bfd_rules::{Mark, Outs, Vars, announces, enters, may_send};
 
 /// No answer came: Down with diagnostic 1.
 fn silenced(v: &Vars) -> Vars
@@ -77,7 +77,7 @@ fn periodic_packet(
     ensures room { outs.new.room ≡ outs.old.room }
 {
     transmits(config, vars, outs);
-    tells(vars, mark);
+    announces(vars, mark);
     *vars = based(eff, vars);
 }
 

@@ -16,7 +16,7 @@ pub use Rattle.bfd_demux.specs.Rows.{build_fault, has_addresses}
 pub use Rattle.bfd_demux.specs.declared.row.RowKind.{RowKind}
 pub use Rattle.bfd_script.specs.Ranges.{AreKeys, AreNext, IsChain, IsKey, IsNext, IsReflector, IsRow}
 pub use Rattle.bfd_sbfd.specs.declared.reflecting.Reflector.{Reflector}
-pub use Rattle.bfd_script.specs.Reading.{is_full, is_named, is_taken, script_of, told_from}
+pub use Rattle.bfd_script.specs.Reading.{is_full, is_named, is_taken, script_of, script_from}
 pub use Rattle.bfd_script.specs.Rows.{by_discr, by_number, changed, has_discr, has_number, has_place, has_reflector, has_selector}
 pub use Rattle.bfd_script.specs.Rows.{insert_by, inserted, keyed_more, keyed_with, keys_in, keys_of, one_more, pool_by_discr, pooled}
 pub use Rattle.bfd_script.specs.Rows.{reflector_discr}

@@ -131,11 +131,11 @@ go_on number (Ok value) next = next value
 go_on number (Err fault) next = Err (record { line = number; fault = fault })
 
 -- what the lines from this number on say
-abbrev pub told_from : Bool → State → ℕ → List (List ℕ) → Result Lists BadLine
-told_from live s number [] = text_ended number s
-told_from live s number (line ∷ lines) = go_on number (line_read live s line) (λ next. told_from live next (number + 1) lines)
+abbrev pub script_from : Bool → State → ℕ → List (List ℕ) → Result Lists BadLine
+script_from live s number [] = text_ended number s
+script_from live s number (line ∷ lines) = go_on number (line_read live s line) (λ next. script_from live next (number + 1) lines)
 
 -- the script that a text spells, or its first faulty line with that line's first fault. In a live script packets and
 -- ticks come from outside, and their lines aren't allowed
 abbrev pub script_of : Bool → List ℕ → Result Lists BadLine
-script_of live bytes = told_from live start 1 (lines_of bytes)
+script_of live bytes = script_from live start 1 (lines_of bytes)

@@ -1,7 +1,8 @@
 -- What the first fault shows.
 use Rattle.bfd_serve.proofs.RunCommon.{◌≡◌, ◌≢◌, ◌⊎◌, ℕ, zero, suc, ◌+◌, ◌<◌, ◌≤◌, ◌==◌, true, false, List, [], ◌∷◌, ◌++◌, length, get_or}
 use Rattle.bfd_serve.proofs.RunCommon.{refl, ap, sym, ◌∙◌, inl, inr, arith, All, All-head, All-tail, nat_tests, slice_get_past, dite}
-use Rattle.bfd_serve.proofs.RunCommon.{ℕ_discrete, dec_lt, Shard, Line, LinkTold, IsNewLink, TickerTold, Shards, calls, by, Act, End}
+use Rattle.bfd_serve.proofs.RunCommon.{ℕ_discrete, dec_lt, Shard, Line, LinkObserved, IsNewLink, TickerObserved, Shards, calls, by, Act}
+use Rattle.bfd_serve.proofs.RunCommon.{End}
 use Rattle.bfd_serve.proofs.RunCommon.{Limits, worker_acts, IsTimerEnd, is_clock_fault, finish_by, finish_from, HadMemory, calls_on}
 use Rattle.bfd_serve.proofs.RunCommon.{journal_in, history_at, no_words, HaveRun, AreClosedShards, IsWorkerEnd, StartsOn, timer_acts}
 use Rattle.bfd_serve.proofs.RunCommon.{Finish}
@@ -79,8 +80,8 @@ bonus_of at n m s cut f = dite (ℕ_discrete n at) (λ is. let e : (n == at) ≡
     rw e (begins_one m (f is)))
     (λ other. let e : (n == at) ≡ false = grind (arith, nat_tests, other) in rw e (omega arith))
 
-module _ (engine : Shards) (states : List Shard) (orders : List Line) (workers : ℕ) (limits : Limits) (before after : ℕ → LinkTold)
-    (c d : TickerTold) (ends : List End) (lost : ℕ)
+module _ (engine : Shards) (states : List Shard) (orders : List Line) (workers : ℕ) (limits : Limits) (before after : ℕ → LinkObserved)
+    (c d : TickerObserved) (ends : List End) (lost : ℕ)
     (run : HaveRun engine (history_at states) orders workers limits before after c d ends lost)
     (new : (n : ℕ) → n ≤ workers → IsNewLink (before n)) (turns_few : limits.turns ≤ 1000000000)
     (journal : ℕ) (limit_is : engine.limit ≡ journal) (some : 0 < journal) (closed : AreClosedShards engine states) where

@@ -2,9 +2,10 @@
 use Rattle.bfd_serve.proofs.RunCommon.{◌≡◌, ◌≢◌, ℕ, zero, suc, ◌+◌, ◌*◌, ◌<◌, ◌≤◌, ◌==◌, false, List, [], ◌∷◌, length, Some, slice_get}
 use Rattle.bfd_serve.proofs.RunCommon.{get_or, slice_index_or, refl, ap, sym, ◌∙◌, subst, arith, All, nat_tests, All-same, All-cons}
 use Rattle.bfd_serve.proofs.RunCommon.{get_or_default, slice_get_past, get_or_from_slice_get, slice_get_within, same_Some, dite, dec_lt}
-use Rattle.bfd_serve.proofs.RunCommon.{calls, has, numbers_of, Entry, Shard, IsShard, Line, LinkTold, TickerTold, by, Shards, Knows, IsOf}
+use Rattle.bfd_serve.proofs.RunCommon.{calls, has, numbers_of, Entry, Shard, IsShard, Line, LinkObserved, TickerObserved, by, Shards, Knows}
+use Rattle.bfd_serve.proofs.RunCommon.{IsOf}
 use Rattle.bfd_serve.proofs.RunCommon.{Act, met_word_of, seen_at, met_word, made_at, kept_at, End, Limits, IsTimerEnd, worker_acts}
-use Rattle.bfd_serve.proofs.RunCommon.{journal_in, history_at, no_words, told_on_link, TimerRan, WorkerRan, HaveRun, AreClosedShards}
+use Rattle.bfd_serve.proofs.RunCommon.{journal_in, history_at, no_words, observed_on_link, TimerRan, WorkerRan, HaveRun, AreClosedShards}
 use Rattle.bfd_serve.proofs.RunCommon.{IsUnspent, IsWorkerEnd, Datagram}
 use Rattle.std.proofs.lemmas.Nat.{mul-le}
 use Rattle.bfd_turn.specs.Plays.{AllKept}
@@ -31,7 +32,7 @@ each_joined engine l made shard n inside h = cc (made shard inside)
 abbrev pub AreSmall : (ℕ → ℕ) → Type 0
 AreSmall words = (shard : ℕ) → words shard < 18446744073709551614
 
-timer_unspent : (engine : Shards) (histories : ℕ → List Entry) {words : ℕ → ℕ} (c d : TickerTold) (got : List ℕ) (ticks : ℕ)
+timer_unspent : (engine : Shards) (histories : ℕ → List Entry) {words : ℕ → ℕ} (c d : TickerObserved) (got : List ℕ) (ticks : ℕ)
     (cut : List Act) (untried : List Datagram) (end : End)
     → AreSmall words → IsTimerEnd engine histories words c d got ticks cut untried end → IsUnspent end
     × IsTimerEnd engine histories no_words c d got ticks cut untried end
@@ -39,7 +40,7 @@ timer_unspent engine histories c d got ticks cut untried (Spent shard word) smal
     absurd (let s = i.1 in omega (arith, small shard, s.1, s.2))
 timer_unspent engine histories c d got ticks cut untried end small i = (tt, i)
 
-worker_unspent : (engine : Shards) (histories : ℕ → List Entry) {words : ℕ → ℕ} (t u : LinkTold) (turned turns : ℕ) (cut : List Act)
+worker_unspent : (engine : Shards) (histories : ℕ → List Entry) {words : ℕ → ℕ} (t u : LinkObserved) (turned turns : ℕ) (cut : List Act)
     (untried : List Datagram) (end : End)
     → AreSmall words → IsWorkerEnd engine histories words t u turned turns cut untried end → IsUnspent end
     × IsWorkerEnd engine histories no_words t u turned turns cut untried end
@@ -56,9 +57,9 @@ kept_here js history at number own here kept =
 product : {a b : ℕ} → a ≤ 64 → b ≤ 1000000000 → a * b ≤ 64000000000
 product {a} {b} h k = mul-le a b 64 1000000000 h k
 
-module _ {L : Type 0} (told : L → LinkTold) (engine : Shards) (l : Knows) (own own2 : L) (c d : TickerTold) (orders : List Line)
+module _ {L : Type 0} (observed : L → LinkObserved) (engine : Shards) (l : Knows) (own own2 : L) (c d : TickerObserved) (orders : List Line)
     (limits : Limits) (links back : List L) (ends : List End) (lost : ℕ) (states : List Shard)
-    (served : HasServed told engine l (told own) (told own2) c d orders limits links back ends lost)
+    (served : HasServed observed engine l (observed own) (observed own2) c d orders limits links back ends lost)
     (of : IsOf engine l.1) (zero_is : l.0 ≡ 0) (closed : AreClosed engine l states)
     (few : length links ≤ 64) (turns_few : limits.turns ≤ 1000000000) (ticks_few : limits.ticks ≤ 1000000000)
     (orders_few : length orders ≤ 200000) where
@@ -78,7 +79,8 @@ module _ {L : Type 0} (told : L → LinkTold) (engine : Shards) (l : Knows) (own
       (λ less. omega (arith, (at_shard less).2.word, served.taken s less, product few turns_few, ticks_few, orders_few))
       (λ far. omega (arith, ap met_word_of (slice_get_past l.1 s (omega (arith, of.long, far)))))
 
-  timer_did : TimerDid engine served.own (history_at states) (met_word l) (told own) (told own2) c d orders limits.ticks served.timer_end
+  timer_did : TimerDid engine served.own (history_at states) (met_word l) (observed own) (observed own2) c d orders limits.ticks
+      served.timer_end
       served.timer_lost
   timer_did = rw (← histories_are) served.timed
 
@@ -87,7 +89,7 @@ module _ {L : Type 0} (told : L → LinkTold) (engine : Shards) (l : Knows) (own
   timer_end_is = timer_unspent engine (history_at states) c d timer_did.got limits.ticks timer_did.cut timer_did.untried served.timer_end
       words_small timer_did.ends
 
-  timer_ran : TimerRan engine (history_at states) (told own) (told own2) c d orders limits.ticks served.timer_end served.timer_lost
+  timer_ran : TimerRan engine (history_at states) (observed own) (observed own2) c d orders limits.ticks served.timer_end served.timer_lost
   timer_ran = record {
     own = served.own;
     own_is = λ s less. cc (history_is s, served.own_is s less);
@@ -108,10 +110,10 @@ module _ {L : Type 0} (told : L → LinkTold) (engine : Shards) (l : Knows) (own
 
   -- what the worker of this link did, whatever stands beyond the lists' ends
   worker_ran : (at : ℕ) (link : L) (end : End) (miss : ℕ) → at < length links → IsUnspent (slice_index_or served.worker_ends at end)
-      × WorkerRan engine (history_at states) (at + 1) (told (slice_index_or links at link)) (told (slice_index_or back at link))
+      × WorkerRan engine (history_at states) (at + 1) (observed (slice_index_or links at link)) (observed (slice_index_or back at link))
       limits.turns (slice_index_or served.worker_ends at end) (slice_index_or served.worker_losts at miss)
   worker_ran at link end miss inner =
-      let t = told (slice_index_or links at link) in let u = told (slice_index_or back at link) in
+      let t = observed (slice_index_or links at link) in let u = observed (slice_index_or back at link) in
       let e : End = slice_index_or served.worker_ends at end in let m : ℕ = slice_index_or served.worker_losts at miss in
       let w = served.workers at link end miss inner in
       let d : WorkerDid engine (at + 1) w.own (history_at states) (met_word l) t u limits.turns e m = rw (← histories_are) w.worked in
@@ -150,16 +152,17 @@ module _ {L : Type 0} (told : L → LinkTold) (engine : Shards) (l : Knows) (own
       ap (calls by n) (ap journal_in a.1) ∙ a.2.unmade n (λ z. absurd (omega (arith, z, far)))
       (cc (served.made s less, none_has n (kept_at l s) (kept_numbers less far)))
 
-  each_ran : (at : ℕ) → at < length links → WorkerRan engine (history_at states) (at + 1) ((told_on_link told own links) (at + 1))
-      ((told_on_link told own2 back) (at + 1)) limits.turns (slice_index_or served.worker_ends at Ended)
+  each_ran : (at : ℕ) → at < length links → WorkerRan engine (history_at states) (at + 1) ((observed_on_link observed own links) (at + 1))
+      ((observed_on_link observed own2 back) (at + 1)) limits.turns (slice_index_or served.worker_ends at Ended)
       (slice_index_or served.worker_losts at 0)
   each_ran at inner =
       let e : suc at ≡ at + 1 = omega arith in
-      let same : told (slice_index_or back at own) ≡ (told_on_link told own2 back) (at + 1) =
+      let same : observed (slice_index_or back at own) ≡ (observed_on_link observed own2 back) (at + 1) =
       cc (get_or_default back at own own2 (let b = served.back_long in omega (arith, b, inner))) in
-      rw (← same) (rw (← ap (told_on_link told own links) e) (worker_ran at own Ended 0 inner).1)
+      rw (← same) (rw (← ap (observed_on_link observed own links) e) (worker_ran at own Ended 0 inner).1)
 
-  pub have_run : HaveRun engine (history_at states) orders (length links) limits (told_on_link told own links) (told_on_link told own2 back)
+  pub have_run : HaveRun engine (history_at states) orders (length links) limits (observed_on_link observed own links)
+      (observed_on_link observed own2 back)
       c d ends lost
   have_run = record {
     timer_end = served.timer_end;

@@ -11,8 +11,8 @@ pub use Rattle.std.proofs.lemmas.List.Elements.{filter-append, filter_map-append
 pub use Rattle.std.proofs.lemmas.List.Sums.{sum_by-append, sum_by-le, sum_by_push}
 pub use Rattle.std.specs.List.{All, remove, sum, sum_by}
 pub use Rattle.bfd_edge.specs.Faults.{risen}
-pub use Rattle.bfd_edge.specs.Links.{LinkTold, Traffic, after_receive, after_send, more_traffic}
-pub use Rattle.bfd_edge.specs.Tickers.{TickerTold, Ticks, after_next, one_given}
+pub use Rattle.bfd_edge.specs.Links.{LinkObserved, Traffic, after_receive, after_send, more_traffic}
+pub use Rattle.bfd_edge.specs.Tickers.{TickerObserved, Ticks, after_next, one_given}
 pub use Rattle.bfd_engine.specs.Calls.{Act, IsCall, IsCause, IsDone, IsFailed, Rests, Turned, Turns, kept_at, met_word, met_word_of, mine}
 pub use Rattle.bfd_engine.specs.Calls.{seen_at, seen_of, taken_at}
 pub use Rattle.bfd_engine.specs.Engines.{AllThere, IsOf, Knows, Shards, configs_at}

@@ -1,6 +1,6 @@
 -- What a caller did, act after act.
 use Rattle.bfd_serve.proofs.Common.{◌≡◌, ◌+◌, ◌≤◌, ◌++◌, length, Result, Ok, Err, refl, ap, ap₂, sym, ◌∙◌, subst, append_assoc, append-nil}
-use Rattle.bfd_serve.proofs.Common.{length-append, le_refl, arith, Arrival, Datagram, Entry, ShardEvent, Begins, calls, LinkTold}
+use Rattle.bfd_serve.proofs.Common.{length-append, le_refl, arith, Arrival, Datagram, Entry, ShardEvent, Begins, calls, LinkObserved}
 use Rattle.bfd_serve.proofs.Common.{more_traffic, by, entry_of, Shards, Knows, Act, Turns, Rests, seen_at, met_word, mine, IsDone, IsCall}
 use Rattle.bfd_serve.proofs.Common.{IsFailed, IsCause, End, Full, Spent, Memory, calls_of, entries, until, datagrams, given_by}
 use Rattle.bfd_serve.proofs.Common.{sends_of_acts, HasSent, IsSentAfter, Did, Stops, IsAside, IsStopped, IsWhole, AreDone, end_of, ℕ, List}
@@ -15,7 +15,7 @@ use Rattle.bfd_serve.proofs.Gains.{begins_self, begins_trans, calls_append, mine
 
 module _ (engine : Shards) where
   -- something was heard, and not handled yet
-  pub did_hear : (k : Knows) (t u : LinkTold) (hs : List (ℕ × Arrival)) (lost : ℕ) → u.traffic ≡ more_traffic hs [] t.traffic
+  pub did_hear : (k : Knows) (t u : LinkObserved) (hs : List (ℕ × Arrival)) (lost : ℕ) → u.traffic ≡ more_traffic hs [] t.traffic
       → u.counts.send_faults ≡ t.counts.send_faults → u.number ≡ t.number → Did engine k k t u hs [] [] [] lost lost
   did_hear k t u hs lost traffic faults same = record {
     same_link = same;
@@ -37,23 +37,23 @@ module _ (engine : Shards) where
     lost_is = risen_same lost;
   }
 
-  pub did_none : (k : Knows) (t : LinkTold) (lost : ℕ) → Did engine k k t t [] [] [] [] lost lost
+  pub did_none : (k : Knows) (t : LinkObserved) (lost : ℕ) → Did engine k k t t [] [] [] [] lost lost
   did_none k t lost = did_hear k t t [] lost (sym (traffic_same t.traffic)) refl refl
 
   -- how many calls a caller has on a shard afterwards
-  count_of : {k l : Knows} {t u : LinkTold} {hs : List (ℕ × Arrival)} {xs cut : List Act} {untried : List Datagram} {a b : ℕ}
+  count_of : {k l : Knows} {t u : LinkObserved} {hs : List (ℕ × Arrival)} {xs cut : List Act} {untried : List Datagram} {a b : ℕ}
       → Did engine k l t u hs xs cut untried a b
       → (s : ℕ) → length (mine l s) ≡ length (mine k s) + length (entries k.0 s (calls_of xs))
   count_of {k} {xs} d s = cc (d.gains s, length-append (mine k s) (entries k.0 s (calls_of xs)))
 
   -- the sends are the same where the histories grow
-  pub sends_later : (k l : Knows) (t u : LinkTold) (hs : List (ℕ × Arrival)) (xs cut : List Act) (untried : List Datagram)
+  pub sends_later : (k l : Knows) (t u : LinkObserved) (hs : List (ℕ × Arrival)) (xs cut : List Act) (untried : List Datagram)
       (a b : ℕ) {h : ℕ → List Entry} → ((s : ℕ) → Begins (seen_at l s) (h s))
       → (d : Did engine k l t u hs xs cut untried a b) → sends_of_acts engine k.0 h (λ i. length (mine k i)) [] xs ≡ d.tried ++ untried
   sends_later k l t u hs xs cut untried a b longer d = sends_grow engine k.0 (seen_at l) (λ i. length (mine k i)) [] xs longer
       (λ i. (let z = ap (λ n. length (calls by n (seen_at l i))) d.number in omega (arith, count_of d i))) ∙ d.sends_are
 
-  pub did_then : {k l m : Knows} {t u v : LinkTold} {hs hs2 : List (ℕ × Arrival)} {xs ys cut : List Act} {untried : List Datagram} {a b
+  pub did_then : {k l m : Knows} {t u v : LinkObserved} {hs hs2 : List (ℕ × Arrival)} {xs ys cut : List Act} {untried : List Datagram} {a b
       c : ℕ}
       → Did engine k l t u hs xs [] [] a b → Did engine l m u v hs2 ys cut untried b c
       → Did engine k m t v (hs ++ hs2) (xs ++ ys) cut untried a c
@@ -98,7 +98,8 @@ module _ (engine : Shards) where
       }
 
   -- more is left out
-  pub did_less : {k l : Knows} {t u : LinkTold} {hs : List (ℕ × Arrival)} {xs cut : List Act} (more : List Act) {untried : List Datagram} {a
+  pub did_less : {k l : Knows} {t u : LinkObserved} {hs : List (ℕ × Arrival)} {xs cut : List Act}
+      (more : List Act) {untried : List Datagram} {a
       b : ℕ} → Did engine k l t u hs xs cut untried a b → Did engine k l t u hs xs (cut ++ more) untried a b
   did_less {k} {xs} {cut} more d = record {
     number = d.number;
@@ -120,7 +121,7 @@ module _ (engine : Shards) where
     lost_is = d.lost_is;
   }
 
-  did_call : {l m : Knows} {u v : LinkTold} {shard : ℕ} {event : ShardEvent} {outs : List Out} {answer : Answer} {untried : List
+  did_call : {l m : Knows} {u v : LinkObserved} {shard : ℕ} {event : ShardEvent} {outs : List Out} {answer : Answer} {untried : List
       Datagram} {a b : ℕ}
       → IsCall engine shard event l m [] outs answer → HasSent (datagrams outs) untried u v a b
       → Did engine l m u v [] (Turns shard event ∷ []) [] untried a b
@@ -145,16 +146,17 @@ module _ (engine : Shards) where
         missing = s.missing;
         sends_are = cc (append-nil (datagrams (given_by engine l.0 (seen_at m) (λ i. length (mine l i)) [] (Turns shard event))));
         lacks = s.lacks;
-        same_link = ap (λ x. x.number) s.told;
+        same_link = ap (λ x. x.number) s.observed;
         traffic = cc;
-        send_faults = ap (λ x. x.counts.send_faults) s.told;
+        send_faults = ap (λ x. x.counts.send_faults) s.observed;
         lost_is = s.lost_is;
       }
 
   -- an act with no turn
-  did_still : (l : Knows) {u v : LinkTold} {told outs : List Out} (answer : Answer) {untried : List Datagram} {a b : ℕ} → outs ≡ told
-      → HasSent (datagrams outs) untried u v a b → Did engine l l u v [] (Rests told answer ∷ []) [] untried a b
-  did_still l {told} answer is s = record {
+  did_still : (l : Knows) {u v : LinkObserved} {observed outs : List Out} (answer : Answer) {untried : List Datagram} {a b : ℕ}
+      → outs ≡ observed
+      → HasSent (datagrams outs) untried u v a b → Did engine l l u v [] (Rests observed answer ∷ []) [] untried a b
+  did_still l {observed} answer is s = record {
     number = refl;
     used = refl;
     gains = λ i. sym (append-nil (mine l i));
@@ -166,20 +168,20 @@ module _ (engine : Shards) where
     tried = s.tried;
     kept = s.kept;
     missing = s.missing;
-    sends_are = cc (append-nil (datagrams told));
+    sends_are = cc (append-nil (datagrams observed));
     lacks = s.lacks;
-    same_link = ap (λ x. x.number) s.told;
+    same_link = ap (λ x. x.number) s.observed;
     traffic = cc;
-    send_faults = ap (λ x. x.counts.send_faults) s.told;
+    send_faults = ap (λ x. x.counts.send_faults) s.observed;
     lost_is = s.lost_is;
   }
 
-  did_step : (l m : Knows) {u v : LinkTold} (x : Act) (outs : List Out) (answer : Answer) {untried : List Datagram} {a b : ℕ}
+  did_step : (l m : Knows) {u v : LinkObserved} (x : Act) (outs : List Out) (answer : Answer) {untried : List Datagram} {a b : ℕ}
       → IsDone x engine l m [] outs (Ok answer) → HasSent (datagrams outs) untried u v a b → Did engine l m u v [] (x ∷ []) [] untried a b
-  did_step l m (Rests told says) outs answer r s = rw r.1 (did_still l says r.2 s)
+  did_step l m (Rests observed says) outs answer r s = rw r.1 (did_still l says r.2 s)
   did_step l m (Turns shard event) outs answer r s = did_call r s
 
-  did_refused : {l m : Knows} (u : LinkTold) {shard : ℕ} (event : ShardEvent) {outs : List Out} {f : EngineFault} (a : ℕ)
+  did_refused : {l m : Knows} (u : LinkObserved) {shard : ℕ} (event : ShardEvent) {outs : List Out} {f : EngineFault} (a : ℕ)
       → IsFailed engine shard l m [] outs f → Did engine l m u u [] [] (Turns shard event ∷ []) [] a a
   did_refused {l} {m} u {shard} event a c = record {
     number = c.turned.number;
@@ -207,23 +209,23 @@ module _ (engine : Shards) where
   stops_of m shard event (fault.Full at n) i = (refl, (rw i.0 (omega arith)), (event, [], cc), i.1)
   stops_of m shard event (fault.Spent at word) i = (refl, i.1, (rw i.0 (omega arith)), (event, [], cc))
 
-  pub aside_same : (t : LinkTold) → IsAside t t
+  pub aside_same : (t : LinkObserved) → IsAside t t
   aside_same t = record { over = refl; receive_faults = refl; gave = refl }
 
-  aside_then : {t u v : LinkTold} → IsAside t u → IsAside u v → IsAside t v
+  aside_then : {t u v : LinkObserved} → IsAside t u → IsAside u v → IsAside t v
   aside_then p q = record { over = cc; receive_faults = cc; gave = cc }
 
   -- sending changes nothing that is observed of receiving
-  aside_sent : {packets untried : List Datagram} {u v : LinkTold} {a b : ℕ} → HasSent packets untried u v a b → IsAside u v
+  aside_sent : {packets untried : List Datagram} {u v : LinkObserved} {a b : ℕ} → HasSent packets untried u v a b → IsAside u v
   aside_sent s = record {
-    over = ap (λ x. x.counts.over) s.told;
-    receive_faults = ap (λ x. x.counts.receive_faults) s.told;
-    gave = ap (λ x. x.counts.gave) s.told;
+    over = ap (λ x. x.counts.over) s.observed;
+    receive_faults = ap (λ x. x.counts.receive_faults) s.observed;
+    gave = ap (λ x. x.counts.gave) s.observed;
   }
 
-  refused_one : (x : Act) (l m : Knows) (u : LinkTold) (a : ℕ) (outs : List Out) (f : EngineFault) → IsDone x engine l m [] outs (Err f)
+  refused_one : (x : Act) (l m : Knows) (u : LinkObserved) (a : ℕ) (outs : List Out) (f : EngineFault) → IsDone x engine l m [] outs (Err f)
       → IsStopped engine (x ∷ []) l m u u a a (end_of f)
-  refused_one (Rests told answer) l m u a outs f r = absurd (cc (r.0))
+  refused_one (Rests observed answer) l m u a outs f r = absurd (cc (r.0))
   refused_one (Turns shard event) l m u a outs f r =
       record {
         done = [];
@@ -236,10 +238,10 @@ module _ (engine : Shards) where
       }
 
   -- one call of the engine, and its sends
-  pub done_one : (x : Act) (l m : Knows) (u v : LinkTold) (a b : ℕ) (outs : List Out) (q : Result Answer EngineFault)
+  pub done_one : (x : Act) (l m : Knows) (u v : LinkObserved) (a b : ℕ) (outs : List Out) (q : Result Answer EngineFault)
       (r : Result (Unit {0}) End)
       → IsDone x engine l m [] outs q → IsSentAfter q outs u v a b r → AreDone engine (x ∷ []) l m u v a b r
-  done_one x l m u v a b outs (Err f) r d s = rw s.0 (subst (λ (y : LinkTold × ℕ). IsStopped engine (x ∷ []) l m u y.0 a y.1 (end_of f))
+  done_one x l m u v a b outs (Err f) r d s = rw s.0 (subst (λ (y : LinkObserved × ℕ). IsStopped engine (x ∷ []) l m u y.0 a y.1 (end_of f))
       (λ i. (sym s.1 i, sym s.2 i)) (refused_one x l m u a outs f d))
   done_one x l m u v a b outs (Ok answer) (Ok z) d s = record { did = did_step l m x outs answer d s; aside = aside_sent s }
   done_one x l m u v a b outs (Ok answer) (Err end) d s = record {
@@ -252,14 +254,14 @@ module _ (engine : Shards) where
     stops = rw s.2 (omega (arith, s.3));
   }
 
-  pub whole_none : (k : Knows) (t : LinkTold) (a : ℕ) → IsWhole engine [] k k t t a a
+  pub whole_none : (k : Knows) (t : LinkObserved) (a : ℕ) → IsWhole engine [] k k t t a a
   whole_none k t a = record { did = did_none k t a; aside = aside_same t }
 
-  pub whole_then : {xs ys : List Act} {k l m : Knows} {t u v : LinkTold} {a b c : ℕ} → IsWhole engine xs k l t u a b
+  pub whole_then : {xs ys : List Act} {k l m : Knows} {t u v : LinkObserved} {a b c : ℕ} → IsWhole engine xs k l t u a b
       → IsWhole engine ys l m u v b c → IsWhole engine (xs ++ ys) k m t v a c
   whole_then p q = record { did = did_then p.did q.did; aside = aside_then p.aside q.aside }
 
-  pub stopped_then : {xs ys : List Act} {k l m : Knows} {t u v : LinkTold} {a b c : ℕ} {end : End} → IsWhole engine xs k l t u a b
+  pub stopped_then : {xs ys : List Act} {k l m : Knows} {t u v : LinkObserved} {a b c : ℕ} {end : End} → IsWhole engine xs k l t u a b
       → IsStopped engine ys l m u v b c end → IsStopped engine (xs ++ ys) k m t v a c end
   stopped_then {xs} p q = record {
     done = xs ++ q.done;
@@ -279,7 +281,7 @@ module _ (engine : Shards) where
   stops_less h w cut more untried end s = s
 
   -- the acts that follow are left out too
-  pub stopped_less : {xs : List Act} (more : List Act) {k l : Knows} {t u : LinkTold} {a b : ℕ} {end : End}
+  pub stopped_less : {xs : List Act} (more : List Act) {k l : Knows} {t u : LinkObserved} {a b : ℕ} {end : End}
       → IsStopped engine xs k l t u a b end → IsStopped engine (xs ++ more) k l t u a b end
   stopped_less more {l} {end} q = record {
     done = q.done;
@@ -299,7 +301,8 @@ module _ (engine : Shards) where
   stops_grow h h2 cut untried Memory longer more s = s
   stops_grow h h2 cut untried end longer more s = s
 
-  pub done_then : {xs : List Act} (ys : List Act) {k l : Knows} (m : Knows) {t u : LinkTold} (v : LinkTold) {a b : ℕ} (c : ℕ) (r : Result
+  pub done_then : {xs : List Act} (ys : List Act) {k l : Knows} (m : Knows) {t u : LinkObserved} (v : LinkObserved) {a b : ℕ} (c : ℕ)
+      (r : Result
       (Unit {0}) End) → IsWhole engine xs k l t u a b → AreDone engine ys l m u v b c r → AreDone engine (xs ++ ys) k m t v a c r
   done_then ys m v c (Ok x) p q = whole_then p q
   done_then ys m v c (Err end) p q = stopped_then p q

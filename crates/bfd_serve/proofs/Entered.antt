@@ -2,7 +2,7 @@
 use Rattle.bfd_serve.proofs.RunCommon.{◌≡◌, ◌<◌, ◌+◌, ◌++◌, ◌∷◌, [], ◌==◌, ℕ, zero, suc, Bool, true, false, cond, List, Option, None, Some}
 use Rattle.bfd_serve.proofs.RunCommon.{Result, Ok, Err, refl, sym, ap, ◌∙◌, subst, length, take, drop, arith, slice_get, AllByRecursion}
 use Rattle.bfd_serve.proofs.RunCommon.{nat_tests, map-append, slice_get_within, dite, dec_lt, SessionConfig, Running, table_of, place_of}
-use Rattle.bfd_serve.proofs.RunCommon.{Entry, Shard, CanHappen, IsHistory, IsOnTime, IsTaken, Line, calls, LinkTold, TickerTold, by}
+use Rattle.bfd_serve.proofs.RunCommon.{Entry, Shard, CanHappen, IsHistory, IsOnTime, IsTaken, Line, calls, LinkObserved, TickerObserved, by}
 use Rattle.bfd_serve.proofs.RunCommon.{entry_of, Shards, configs_at, Act, Rests, ask_act, coming_act, reflect_act, End, Limits, calls_of}
 use Rattle.bfd_serve.proofs.RunCommon.{entries, worker_acts, is_clock_fault, journal_in, history_at, HaveRun, AreClosedShards, advances}
 use Rattle.bfd_serve.proofs.RunCommon.{orders_due, order_act, orders_acts, orders_left, ticks_acts, timer_acts, Datagram, reply}
@@ -52,12 +52,12 @@ timely {engine} {states} closed number caller t before after h =
     let made = closed.each number s.0 s.1 in
     let on =
     subst (IsOnTime cs) (ap events_of s.2 ∙ split before after x) (rw (← made.configs) made.kept.timely) in
-    let told = sym (split before [] x) in
+    let observed = sym (split before [] x) in
     record {
       before = before;
       last = refl;
-      exact = rw (← told) (on.exact (events_of before) (events_of after) t refl);
-      none_due = rw (← told) (on.none_due (events_of before) (events_of after) t refl);
+      exact = rw (← observed) (on.exact (events_of before) (events_of after) t refl);
+      none_due = rw (← observed) (on.none_due (events_of before) (events_of after) t refl);
     }
 
 -- lists of which all elements are of a kind
@@ -167,8 +167,8 @@ module _ (engine : Shards) where
       )
 
 -- every packet in the histories of a run fits
-module _ (engine : Shards) (states : List Shard) (orders : List Line) (workers : ℕ) (limits : Limits) (before after : ℕ → LinkTold)
-    (c d : TickerTold) (ends : List End) (lost : ℕ)
+module _ (engine : Shards) (states : List Shard) (orders : List Line) (workers : ℕ) (limits : Limits) (before after : ℕ → LinkObserved)
+    (c d : TickerObserved) (ends : List End) (lost : ℕ)
     (closed : AreClosedShards engine states) (run : HaveRun engine (history_at states) orders workers limits before after c d ends lost)
   where
     timer_own : {shard : ℕ} → shard < length engine.locks → AllByRecursion (EntryFits engine) (calls by 0 (history_at states shard))

@@ -17,21 +17,21 @@ abbrev outcome : List Out → Answer → Outcome
 outcome items answer = record { items = items; answer = answer }
 
 -- the text of an entry is its turn and what it gave
-pub entry_told : (cs : List SessionConfig) (before : List Entry) (entry : Entry) {n discr : ℕ} {items : List Out} {answer : Answer}
+pub entry_observed : (cs : List SessionConfig) (before : List Entry) (entry : Entry) {n discr : ℕ} {items : List Out} {answer : Answer}
     (now : List ℕ) {turned new : List ℕ}
     → n ≡ length before + 1 → discr ≡ discr_in cs entry.event → items ≡ (reply_at cs before entry).items
     → answer ≡ (reply_at cs before entry).answer
     → turned ≡ now ++ turn_line n discr entry → new ≡ turned ++ event_lines n (record { items = items; answer = answer })
     → new ≡ now ++ entry_text cs before entry
-entry_told cs before entry {n} {discr} {items} {answer} now n_is discr_is items_are answer_is turn told =
+entry_observed cs before entry {n} {discr} {items} {answer} now n_is discr_is items_are answer_is turn observed =
     cc (append_assoc now (turn_line n discr entry) (event_lines n (outcome items answer)))
 
 -- and is longer than the number of packets that it sent
 pub entry_long : (cs : List SessionConfig) (before : List Entry) (entry : Entry) {count : ℕ} (now : List ℕ) {new : List ℕ}
     → new ≡ now ++ entry_text cs before entry → count ≡ packets_sent (reply_at cs before entry) → length now + count + 1 ≤ length new
-entry_long cs before entry now told is = omega (
+entry_long cs before entry now observed is = omega (
   arith,
-  ap length told,
+  ap length observed,
   is,
   entry_some cs before entry,
   length-append now (entry_text cs before entry),
@@ -74,7 +74,7 @@ module _ (cs : List SessionConfig) (js : List Entry) (i : ℕ) (own : List Sessi
   pub text_next : (now : List ℕ) {new goal : List ℕ} → now ++ entries_text cs (take i js) (drop i js) ≡ goal
       → new ≡ now ++ entry_text own taken entry
       → new ++ entries_text cs (take (i + 1) js) (drop (i + 1) js) ≡ goal
-  text_next now so_far told = cc (
+  text_next now so_far observed = cc (
     append_assoc now (entry_text own taken entry) (entries_text cs (take (i + 1) js) (drop (i + 1) js)),
     text_split,
   )

@@ -8,8 +8,8 @@ pub use Rattle.std.proofs.lemmas.List.{map-append, same_lists}
 pub use Rattle.std.proofs.lemmas.List.Elements.{All-cons, All-get_or, All-head, All-same, All-tail, recursion_from_All}
 pub use Rattle.std.proofs.lemmas.Option.{get_or_from_slice_get, same_Some, slice_get_past, slice_get_within}
 pub use Rattle.std.specs.List.{All, AllByRecursion}
-pub use Rattle.bfd_edge.specs.Links.{IsNewLink, LinkTold}
-pub use Rattle.bfd_edge.specs.Tickers.{TickerTold}
+pub use Rattle.bfd_edge.specs.Links.{IsNewLink, LinkObserved}
+pub use Rattle.bfd_edge.specs.Tickers.{TickerObserved}
 pub use Rattle.bfd_engine.specs.Calls.{Act, Rests, ask_act, coming_act, kept_at, made_at, met_word, met_word_of, reflect_act, seen_at}
 pub use Rattle.bfd_engine.specs.Engines.{IsOf, Knows, Shards, configs_at}
 pub use Rattle.bfd_engine.specs.Turned.{by, entry_of}
@@ -21,7 +21,7 @@ pub use Rattle.bfd_serve.specs.declared.serving.Limits.{Limits}
 pub use Rattle.bfd_serve.specs.Finishes.{HadMemory, IsUnspent, finish_by, finish_from, refused_as}
 pub use Rattle.bfd_serve.specs.Linking.{AreShut, AreTheirs, AreUncalled, IsFaultOf, IsOpenTo, IsUncalled, IsUnopened}
 pub use Rattle.bfd_serve.specs.Runs.{AreClosedShards, AreDealt, HaveRun, IsOpened, TimerRan, WorkerRan, all_on, calls_on, history_at}
-pub use Rattle.bfd_serve.specs.Runs.{journal_in, no_words, script_with, told_on_link}
+pub use Rattle.bfd_serve.specs.Runs.{journal_in, no_words, script_with, observed_on_link}
 pub use Rattle.bfd_session.specs.Kinds.{Running, configs_of}
 pub use Rattle.bfd_session.specs.Rows.{AreFit, place_of, table_of}
 pub use Rattle.bfd_session.specs.declared.event.SessionConfig.{SessionConfig}
@@ -37,5 +37,5 @@ pub use Rattle.bfd_serve.specs.Orders.{advances, order_act, orders_acts, orders_
 pub use Rattle.bfd_serve.specs.declared.run.finish.Finish.{Finish}
 pub use Rattle.bfd_packet.specs.declared.arrival.Datagram.{Datagram}
 pub use Rattle.bfd_session.specs.Step.{IsFit, reply}
-pub use Rattle.bfd_edge.specs.Ports.{PortsTold, after_open}
+pub use Rattle.bfd_edge.specs.Ports.{PortsObserved, after_open}
 pub use Rattle.bfd_script.specs.Reading.{Lists}

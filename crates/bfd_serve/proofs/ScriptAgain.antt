@@ -20,7 +20,7 @@ use Rattle.bfd_script.specs.declared.fields.fault.LineFault.{LineFault}
 use Rattle.bfd_script.specs.declared.line.entries.Line.{Line}
 use Rattle.bfd_script.specs.declared.line.words.Place.TheVariants as places
 use Rattle.bfd_script.specs.declared.line.words.Version.TheVariants.{One, Two}
-use Rattle.bfd_script.specs.Reading.{Lists, State, is_named, script_of, start, line_read, told_from, unless, with_config, with_event}
+use Rattle.bfd_script.specs.Reading.{Lists, State, is_named, script_of, start, line_read, script_from, unless, with_config, with_event}
 use Rattle.bfd_script.specs.Reading.{with_key, with_keys, with_reflector}
 use Rattle.bfd_script.proofs.Rising.{inserted_last}
 use Rattle.bfd_script.specs.Rows.{changed, given, has_discr, has_reflector, inserted, is_pair, pooled, keyed_more, keyed_with, keys_in}
@@ -38,7 +38,7 @@ use Rattle.bfd_serve.proofs.Splitting.{lines_again}
 -- a line that is read and taken
 line_taken : (s : State) {next : State} (number : ℕ) (fields : List (List ℕ)) (rest : List ℕ)
     → lines_of (line fields ++ rest) ≡ spaced fields [] ∷ lines_of rest → line_read false s (spaced fields []) ≡ Ok next
-    → told_from false s number (lines_of (line fields ++ rest)) ≡ told_from false next (number + 1) (lines_of rest)
+    → script_from false s number (lines_of (line fields ++ rest)) ≡ script_from false next (number + 1) (lines_of rest)
 line_taken s number fields rest split taken = cc
 
 -- the table is read: these sessions and reflectors stood
@@ -168,8 +168,8 @@ key_step c {kind} {before} {key} done some below next h =
 more_again : (c : Config) (kind : AuthType) (before keys : List Key) (done : List SessionConfig) (number : ℕ) (rest : List ℕ) → 0 < c.discr
     → c.discr < 2 ^ 32
     → AreNext kind before keys → AllByRecursion (λ d. discr_of d < c.discr) done
-    → told_from false (at_table Two (done ++ with_list c kind before ∷ [])) number (lines_of (more_text c.discr keys ++ rest))
-    ≡ told_from false (at_table Two (done ++ with_list c kind (before ++ keys) ∷ [])) (number + length keys) (lines_of rest)
+    → script_from false (at_table Two (done ++ with_list c kind before ∷ [])) number (lines_of (more_text c.discr keys ++ rest))
+    ≡ script_from false (at_table Two (done ++ with_list c kind (before ++ keys) ∷ [])) (number + length keys) (lines_of rest)
 more_again c kind before [] done number rest some below next h =
     let e : number + 0 ≡ number = omega arith in rw (append-nil before, e) refl
 more_again c kind before (key ∷ keys) done number rest some below next h =
@@ -200,8 +200,8 @@ no_others n e = let more : nat_lt 1 (suc (suc n)) ≡ true = grind (arith, nat_t
 others_again : (version : Version) (c : Config) (kind : AuthType) (key : Key) (keys : List Key) (done : List SessionConfig) (number : ℕ)
     (rest : List ℕ) → 0 < c.discr → c.discr < 2 ^ 32
     → Speaks version (nat_lt 1 (suc (length keys))) → AreNext kind (key ∷ []) keys → AllByRecursion (λ d. discr_of d < c.discr) done
-    → told_from false (at_table version (done ++ with_list c kind (key ∷ []) ∷ [])) number (lines_of (more_text c.discr keys ++ rest))
-    ≡ told_from false (at_table version (done ++ with_list c kind (key ∷ keys) ∷ [])) (number + length keys) (lines_of rest)
+    → script_from false (at_table version (done ++ with_list c kind (key ∷ []) ∷ [])) number (lines_of (more_text c.discr keys ++ rest))
+    ≡ script_from false (at_table version (done ++ with_list c kind (key ∷ keys) ∷ [])) (number + length keys) (lines_of rest)
 others_again One c kind key [] done number rest some below speaks next h =
     let e : number + 0 ≡ number = omega arith in rw e refl
 others_again One c kind key (other ∷ keys) done number rest some below speaks next h = absurd (no_others (length keys) speaks)
@@ -211,8 +211,8 @@ others_again Two c kind key keys done number rest some below speaks next h =
 list_again : (version : Version) (c : Config) (kind : AuthType) (list : List Key) (done : List SessionConfig) (number : ℕ) (rest : List ℕ)
     → c.keys ≡ None → 0 < c.discr → c.discr < 2 ^ 32
     → Speaks version (nat_lt 1 (length list)) → 0 < length list → AreNext kind [] list → AllByRecursion (λ d. discr_of d < c.discr) done
-    → told_from false (at_table version (done ++ Pair c ∷ [])) number (lines_of (list_text c.discr kind list ++ rest))
-    ≡ told_from false (at_table version (done ++ with_list c kind list ∷ [])) (number + length list) (lines_of rest)
+    → script_from false (at_table version (done ++ Pair c ∷ [])) number (lines_of (list_text c.discr kind list ++ rest))
+    ≡ script_from false (at_table version (done ++ with_list c kind list ∷ [])) (number + length list) (lines_of rest)
 list_again version c kind [] done number rest bare some below speaks there next h = absurd (omega arith)
 list_again version c kind (key ∷ keys) done number rest bare some below speaks there next h =
     let e : number + 1 + length keys ≡ number + suc (length keys) = omega arith in
@@ -227,16 +227,16 @@ list_again version c kind (key ∷ keys) done number rest bare some below speaks
 keys_again : (version : Version) (c : Config) (keys : Option KeyChain) (done : List SessionConfig) (number : ℕ) (rest : List ℕ)
     → 0 < c.discr → c.discr < 2 ^ 32
     → Speaks version (has_second keys) → AreKeys keys → AllByRecursion (λ d. discr_of d < c.discr) done
-    → told_from false (at_table version (done ++ Pair (record c { keys = None }) ∷ [])) number (lines_of (keys_text c.discr keys ++ rest))
-    ≡ told_from false (at_table version (done ++ Pair (record c { keys = keys }) ∷ [])) (past_keys number keys) (lines_of rest)
+    → script_from false (at_table version (done ++ Pair (record c { keys = None }) ∷ [])) number (lines_of (keys_text c.discr keys ++ rest))
+    ≡ script_from false (at_table version (done ++ Pair (record c { keys = keys }) ∷ [])) (past_keys number keys) (lines_of rest)
 keys_again version c None done number rest some below speaks fit h = refl
 keys_again version c (Some keys) done number rest some below speaks fit h =
     list_again version (record c { keys = None }) keys.kind keys.list done number rest refl some below speaks fit.some fit.list h
 
 bare_again : (version : Version) (c : SessionConfig) (done : List SessionConfig) (number : ℕ) (rest : List ℕ) → IsFit c → IsRow c
     → Speaks version (is_new_row c) → AllByRecursion (λ d. discr_of d < discr_of c) done
-    → told_from false (at_table version (done ++ bare c ∷ [])) number (lines_of (keys_text (discr_of c) (keys_in (Some c)) ++ rest))
-    ≡ told_from false (at_table version (done ++ c ∷ [])) (past_keys number (keys_in (Some c))) (lines_of rest)
+    → script_from false (at_table version (done ++ bare c ∷ [])) number (lines_of (keys_text (discr_of c) (keys_in (Some c)) ++ rest))
+    ≡ script_from false (at_table version (done ++ c ∷ [])) (past_keys number (keys_in (Some c))) (lines_of rest)
 bare_again version (Pair c) done number rest fit row speaks h =
     keys_again version c c.keys done number rest fit.discr row.discr speaks row.keys h
 bare_again version c done number rest fit row speaks h = refl
@@ -244,8 +244,8 @@ bare_again version c done number rest fit row speaks h = refl
 session_again : (version : Version) {c : SessionConfig} {done : List SessionConfig} (number : ℕ) (rest : List ℕ) → IsFit c → IsRow c
     → Follows done c
     → Speaks version (is_new_row c) → length done < 65536
-    → told_from false (at_table version done) number (lines_of (config_text c ++ rest))
-    ≡ told_from false (at_table version (done ++ c ∷ [])) (past_keys (number + 1) (keys_in (Some c))) (lines_of rest)
+    → script_from false (at_table version done) number (lines_of (config_text c ++ rest))
+    ≡ script_from false (at_table version (done ++ c ∷ [])) (past_keys (number + 1) (keys_in (Some c))) (lines_of rest)
 session_again version {c} {done} number rest fit row follows speaks room = cc (
   append_assoc (line (row_fields c)) (keys_text (discr_of c) (keys_in (Some c))) rest,
   line_taken (at_table version done) number (row_fields c) (keys_text (discr_of c) (keys_in (Some c)) ++ rest)
@@ -256,8 +256,8 @@ session_again version {c} {done} number rest fit row follows speaks room = cc (
 
 rows_again : (version : Version) (cs done : List SessionConfig) (number : ℕ) (rest : List ℕ) → AllByRecursion IsFit cs
     → AllByRecursion IsRow cs → AllByRecursion (λ c. Speaks version (is_new_row c)) cs → Ready done cs
-    → length done + length cs ≤ 65536 → told_from false (at_table version done) number (lines_of (rows_text cs ++ rest))
-    ≡ told_from false (at_table version (done ++ cs)) (past number cs) (lines_of rest)
+    → length done + length cs ≤ 65536 → script_from false (at_table version done) number (lines_of (rows_text cs ++ rest))
+    ≡ script_from false (at_table version (done ++ cs)) (past number cs) (lines_of rest)
 rows_again version [] done number rest fit row speaks follows room = rw (append-nil done) refl
 rows_again version (c ∷ cs) done number rest fit row speaks follows room =
     let more = length-append done (c ∷ []) in
@@ -320,8 +320,8 @@ reflector_step version cs {r} done row apart h room = cc (reflector_again versio
 pool_again : (version : Version) (cs : List SessionConfig) (pool done : List Reflector) (number : ℕ) (rest : List ℕ)
     → AllByRecursion IsReflector pool → AreApart cs pool
     → pools.Ascends pool → AllBelow done pool → length cs + (length done + length pool) ≤ 65536
-    → told_from false (at_pool version cs done) number (lines_of (pool_text pool ++ rest))
-    ≡ told_from false (at_pool version cs (done ++ pool)) (number + length pool) (lines_of rest)
+    → script_from false (at_pool version cs done) number (lines_of (pool_text pool ++ rest))
+    ≡ script_from false (at_pool version cs (done ++ pool)) (number + length pool) (lines_of rest)
 pool_again version cs [] done number rest row apart up below room =
     let e : number + 0 ≡ number = omega arith in rw (append-nil done, e) refl
 pool_again version cs (r ∷ pool) done number rest row apart up below room =
@@ -356,8 +356,8 @@ event_step version event configs pool done fit named room new =
 events_again : (version : Version) (events : List Line) (configs : List SessionConfig) (pool : List Reflector) (done : List Line)
     (number : ℕ) (rest : List ℕ) → AllByRecursion IsEvent events → AreNamed configs events
     → AllByRecursion (λ e. Speaks version (is_new_line e)) events → length done + length events ≤ 200000
-    → told_from false (at_events version configs pool done) number (lines_of (events_text events ++ rest))
-    ≡ told_from false (at_events version configs pool (done ++ events)) (number + length events) (lines_of rest)
+    → script_from false (at_events version configs pool done) number (lines_of (events_text events ++ rest))
+    ≡ script_from false (at_events version configs pool (done ++ events)) (number + length events) (lines_of rest)
 events_again version [] configs pool done number rest fit named new room =
     let e : number + 0 ≡ number = omega arith in rw (append-nil done, e) refl
 events_again version (event ∷ events) configs pool done number rest fit named new room =
@@ -374,19 +374,19 @@ events_again version (event ∷ events) configs pool done number rest fit named 
 
 -- ---- the whole
 
-version_read : (version : Version) (rest : List ℕ) → told_from false start 1
+version_read : (version : Version) (rest : List ℕ) → script_from false start 1
     (lines_of (line (codes "bfd" ∷ version_field version ∷ []) ++ rest))
-    ≡ told_from false (at_table version []) 2 (lines_of rest)
+    ≡ script_from false (at_table version []) 2 (lines_of rest)
 version_read One rest = refl
 version_read Two rest = refl
 
 run_read : (version : Version) (configs : List SessionConfig) (pool : List Reflector) (number : ℕ) (rest : List ℕ)
-    → told_from false (at_pool version configs pool) number (lines_of (line (codes "run" ∷ []) ++ rest))
-    ≡ told_from false (at_events version configs pool []) (number + 1) (lines_of rest)
+    → script_from false (at_pool version configs pool) number (lines_of (line (codes "run" ∷ []) ++ rest))
+    ≡ script_from false (at_events version configs pool []) (number + 1) (lines_of rest)
 run_read version configs pool number rest = refl
 
 end_read : (version : Version) (configs : List SessionConfig) (pool : List Reflector) (events : List Line) (number : ℕ)
-    → told_from false (at_events version configs pool events) number (lines_of (line (codes "end" ∷ [])))
+    → script_from false (at_events version configs pool events) number (lines_of (line (codes "end" ∷ [])))
     ≡ Ok (record { configs = configs; pool = pool; events = events })
 end_read version configs pool events number = refl
 

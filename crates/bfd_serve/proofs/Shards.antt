@@ -46,15 +46,15 @@ module _ (ss : List Shard) (i : ℕ) (state : Shard) (inside : i < length ss) (i
   pub text_next : (now new goal : List ℕ) → now ++ shards_text i (map shard_history (drop i ss)) ≡ goal
       → new ≡ now ++ shard_text i (shard_history state)
       → new ++ shards_text (i + 1) (map shard_history (drop (i + 1) ss)) ≡ goal
-  text_next now new goal so_far told =
+  text_next now new goal so_far observed =
       cc (append_assoc now (shard_text i (shard_history state)) (shards_text (i + 1) (map shard_history (drop (i + 1) ss))), text_split)
 
   pub sum_next : (f : History → ℕ) (now count goal : ℕ) → now + sum_by f (map shard_history (drop i ss)) ≡ goal
       → count ≡ f (shard_history state)
       → now + count + sum_by f (map shard_history (drop (i + 1) ss)) ≡ goal
-  sum_next f now count goal so_far told =
+  sum_next f now count goal so_far observed =
       let e = ap (λ xs. sum_by f (map shard_history xs)) left in
-      omega (arith, so_far, told, e, sum_by-cons f (shard_history state) (map shard_history (drop (i + 1) ss)))
+      omega (arith, so_far, observed, e, sum_by-cons f (shard_history state) (map shard_history (drop (i + 1) ss)))
 
 -- behind the last there is none
 none_left : (ss : List Shard) (i : ℕ) → [] ≡ map made_with (drop i ss) → drop i ss ≡ []
@@ -67,7 +67,7 @@ pub whole : (ss : List Shard) (i : ℕ) (now new : List ℕ) (entries txs lost :
     → txs + sum_by shard_sent (map shard_history (drop i ss)) ≡ sum_by shard_sent (map shard_history ss)
     → new ≡ now ++ served_line entries txs lost → new ≡ served (map shard_history ss) lost
 unfolding shards_text
-whole ss i now new entries txs lost made text counted sent told =
+whole ss i now new entries txs lost made text counted sent observed =
     let none = none_left ss i made in
     let all : now ≡ shards_text 0 (map shard_history ss) =
     cc (append-nil now) in

@@ -8,6 +8,7 @@ pub history_same : {cs own : List SessionConfig} {js ks : List Entry} → own �
 history_same configs journal h = rw journal (rw configs h)
 
 -- the text of a shard is its number and its entries
-pub shard_told : {cs own : List SessionConfig} {js ks : List Entry} (number : ℕ) (now : List ℕ) {headed new : List ℕ} → own ≡ cs → ks ≡ js
+pub shard_observed : {cs own : List SessionConfig} {js ks : List Entry} (number : ℕ) (now : List ℕ) {headed new : List ℕ} → own ≡ cs
+    → ks ≡ js
     → headed ≡ now ++ shard_line number → new ≡ headed ++ entries_text own [] ks → new ≡ now ++ (shard_line number ++ entries_text cs [] js)
-shard_told {own} {ks} number now configs journal head told = cc (append_assoc now (shard_line number) (entries_text own [] ks))
+shard_observed {own} {ks} number now configs journal head observed = cc (append_assoc now (shard_line number) (entries_text own [] ks))

@@ -2,7 +2,8 @@
 use Rattle.bfd_serve.proofs.Common.{◌≡◌, zero, suc, ◌+◌, ◌*◌, ◌<◌, ◌≤◌, ◌++◌, length, map, Some, slice_get, get_or, slice_index_or, refl}
 use Rattle.bfd_serve.proofs.Common.{ap, sym, ◌∙◌, subst, length-append, arith, All, sum, All-get_or, length-map, get_or-map, get_or_default}
 use Rattle.bfd_serve.proofs.Common.{same_lists, get_or_append_left, sum_by-le, dite, dec_lt, Arrival, Datagram, Entry, Line, Begins, calls}
-use Rattle.bfd_serve.proofs.Common.{begins_length, risen, LinkTold, TickerTold, by, Shards, Knows, IsOf, Act, seen_of, met_word_of, seen_at}
+use Rattle.bfd_serve.proofs.Common.{begins_length, risen, LinkObserved, TickerObserved, by, Shards, Knows, IsOf, Act, seen_of, met_word_of}
+use Rattle.bfd_serve.proofs.Common.{seen_at}
 use Rattle.bfd_serve.proofs.Common.{met_word, taken_at, kept_at, mine, End, Full, Spent, worker_acts, Did, IsWorkerEnd, HasWorked}
 use Rattle.bfd_serve.proofs.Common.{IsTimerEnd, HasTimed, is_clock_fault, pass_of, link_of, end_of_job, lost_of, IsOpen, IsReady, IsWorked}
 use Rattle.bfd_serve.proofs.Common.{number_of, numbers, IsOther, IsFresh, HasSplit, calls_kept, AreJoined, ℕ, List, [], ◌∷◌, Job, HasDone}
@@ -40,7 +41,7 @@ module _ (engine : Shards) where
   words_everywhere k l of each s = by_shard (λ i. met_word k i ≤ met_word l i) (each s) (λ far. omega (arith, word_beyond k of far))
 
   -- what a caller did that had seen nothing, by the histories in the end
-  done_of : {k o : Knows} (m : Knows) {n : ℕ} {t u : LinkTold} {heard : List (ℕ × Arrival)} {done cut : List Act} {untried : List
+  done_of : {k o : Knows} (m : Knows) {n : ℕ} {t u : LinkObserved} {heard : List (ℕ × Arrival)} {done cut : List Act} {untried : List
       Datagram} {lost : ℕ} → Did engine k o t u heard done cut untried 0 lost → k.0 ≡ n
       → ((s : ℕ) → seen_at k s ≡ []) → ((s : ℕ) → Begins (seen_at o s) (seen_at m s))
       → HasDone engine n (mine o) (seen_at m) t u heard done untried lost
@@ -61,7 +62,8 @@ module _ (engine : Shards) where
     lost_is = d.lost_is;
   }
 
-  worker_end_grows : (h h2 : ℕ → List Entry) {w w2 : ℕ → ℕ} (t u : LinkTold) (turned turns : ℕ) (cut : List Act) (untried : List Datagram)
+  worker_end_grows : (h h2 : ℕ → List Entry) {w w2 : ℕ → ℕ} (t u : LinkObserved) (turned turns : ℕ) (cut : List Act)
+      (untried : List Datagram)
       (end : End) → ((s : ℕ) → length (h s) ≤ length (h2 s)) → ((s : ℕ) → w s ≤ w2 s)
       → IsWorkerEnd engine h w t u turned turns cut untried end → IsWorkerEnd engine h2 w2 t u turned turns cut untried end
   worker_end_grows h h2 t u turned turns cut untried (Full shard n) longer more i =
@@ -70,7 +72,7 @@ module _ (engine : Shards) where
       (i.0, i.1, stops_grow engine h h2 cut untried (Spent shard word) longer more i.2)
   worker_end_grows h h2 t u turned turns cut untried end longer more i = i
 
-  timer_end_grows : (h h2 : ℕ → List Entry) {w w2 : ℕ → ℕ} (c d : TickerTold) (got : List ℕ) (ticks : ℕ) (cut : List Act)
+  timer_end_grows : (h h2 : ℕ → List Entry) {w w2 : ℕ → ℕ} (c d : TickerObserved) (got : List ℕ) (ticks : ℕ) (cut : List Act)
       (untried : List Datagram) (end : End) → ((s : ℕ) → length (h s) ≤ length (h2 s)) → ((s : ℕ) → w s ≤ w2 s)
       → IsTimerEnd engine h w c d got ticks cut untried end → IsTimerEnd engine h2 w2 c d got ticks cut untried end
   timer_end_grows h h2 c d got ticks cut untried (Full shard n) longer more i =
@@ -79,7 +81,7 @@ module _ (engine : Shards) where
       (i.0, stops_grow engine h h2 cut untried (Spent shard word) longer more i.1)
   timer_end_grows h h2 c d got ticks cut untried end longer more i = i
 
-  worker_did : {k o : Knows} (m : Knows) {n : ℕ} {t u : LinkTold} {turns : ℕ} {end : End} {lost : ℕ}
+  worker_did : {k o : Knows} (m : Knows) {n : ℕ} {t u : LinkObserved} {turns : ℕ} {end : End} {lost : ℕ}
       → HasWorked engine k o t u turns end lost → k.0 ≡ n → ((s : ℕ) → seen_at k s ≡ [])
       → ((s : ℕ) → Begins (seen_at o s) (seen_at m s)) → ((s : ℕ) → met_word o s ≤ met_word m s)
       → WorkerDid engine n (mine o) (seen_at m) (met_word m) t u turns end lost
@@ -96,7 +98,7 @@ module _ (engine : Shards) where
     few = w.few;
   }
 
-  timer_did : {k o : Knows} (m : Knows) {t u : LinkTold} {c d : TickerTold} {orders : List Line} {ticks : ℕ} {end : End} {lost : ℕ}
+  timer_did : {k o : Knows} (m : Knows) {t u : LinkObserved} {c d : TickerObserved} {orders : List Line} {ticks : ℕ} {end : End} {lost : ℕ}
       → HasTimed engine k o t u c d orders ticks end lost → k.0 ≡ 0 → ((s : ℕ) → seen_at k s ≡ [])
       → ((s : ℕ) → Begins (seen_at o s) (seen_at m s)) → ((s : ℕ) → met_word o s ≤ met_word m s)
       → TimerDid engine (mine o) (seen_at m) (met_word m) t u c d orders ticks end lost
@@ -138,22 +140,22 @@ pick [] h = absurd (omega arith)
 pick (x ∷ xs) h = x
 
 -- the jobs before the work
-pub all_ready : {L : Type 0} (told : L → LinkTold) {engine : Shards} (jobs : List (Job L)) → All (IsFresh engine) (map pass_of jobs)
-    → All (IsOpen told) (map link_of jobs) → All (IsReady told engine) jobs
-all_ready told {engine} jobs news opens i j h =
+pub all_ready : {L : Type 0} (observed : L → LinkObserved) {engine : Shards} (jobs : List (Job L)) → All (IsFresh engine) (map pass_of jobs)
+    → All (IsOpen observed) (map link_of jobs) → All (IsReady observed engine) jobs
+all_ready observed {engine} jobs news opens i j h =
     let p = subst (IsFresh engine) (get_or-map pass_of jobs i j j.pass h)
     (All-get_or (IsFresh engine) (map pass_of jobs) i j.pass (omega (arith, length-map jobs pass_of)) news) in
     record {
       of = p.other.of;
       there = p.other.there;
-      open_is = subst (IsOpen told) (get_or-map link_of jobs i j j.link h)
-          (All-get_or (IsOpen told) (map link_of jobs) i j.link (omega (arith, length-map jobs link_of)) opens);
+      open_is = subst (IsOpen observed) (get_or-map link_of jobs i j j.link h)
+          (All-get_or (IsOpen observed) (map link_of jobs) i j.link (omega (arith, length-map jobs link_of)) opens);
     }
 
-module _ {L : Type 0} (told : L → LinkTold) (engine : Shards) (k : Knows) (turns : ℕ) (before after : List (Job L)) (n : ℕ)
+module _ {L : Type 0} (observed : L → LinkObserved) (engine : Shards) (k : Knows) (turns : ℕ) (before after : List (Job L)) (n : ℕ)
     (split : HasSplit engine k (map pass_of before) n)
     (long : length after ≡ length before)
-    (each : (i : ℕ) (j : Job L) → i < length before → IsWorked told engine turns (slice_index_or before i j) (slice_index_or after i j))
+    (each : (i : ℕ) (j : Job L) → i < length before → IsWorked observed engine turns (slice_index_or before i j) (slice_index_or after i j))
   where
     count_is : length before ≡ n
     count_is = cc (length-map before pass_of)
@@ -198,7 +200,7 @@ module _ {L : Type 0} (told : L → LinkTold) (engine : Shards) (k : Knows) (tur
         subst (IsOther engine) (sym (get_or_default (map pass_of after) i o j.pass h ∙ pass_after j less))
         (record { of = w.of; there = w.there; number = λ z. absurd (omega (arith, z, number_after j less)) })
 
-    module _ (l m : Knows) (t u : LinkTold) (c d : TickerTold) (orders : List Line) (ticks : ℕ) (end : End) (lost : ℕ)
+    module _ (l m : Knows) (t u : LinkObserved) (c d : TickerObserved) (orders : List Line) (ticks : ℕ) (end : End) (lost : ℕ)
         (tended : IsTended engine k l t u c d orders ticks end lost)
         (joined : (s : ℕ) → s < length engine.locks → AreJoined l (map pass_of after) m s) where
       grows_to : {i : ℕ} (j : Job L) → i < length before → (s : ℕ) → Begins (seen_at (get_or after i j).pass s) (seen_at m s)
@@ -215,7 +217,8 @@ module _ {L : Type 0} (told : L → LinkTold) (engine : Shards) (k : Knows) (tur
       kept_is {s} h = cc ((joined s h).kept, tended.timed.did.keeps s, split.kept s h)
 
       worker_at : {i : ℕ} (j : Job L) → i < length before
-          → IsServedBy told engine m turns i (get_or before i j).link (get_or after i j).link (get_or after i j).end (get_or after i j).lost
+          → IsServedBy observed engine m turns i (get_or before i j).link (get_or after i j).link (get_or after i j).end
+          (get_or after i j).lost
       worker_at {i} j h = record {
         own = mine (get_or after i j).pass;
         kept = λ s less. cc (
@@ -255,12 +258,12 @@ module _ {L : Type 0} (told : L → LinkTold) (engine : Shards) (k : Knows) (tur
           )
 
       worker_of : (i : ℕ) (x : L) (y : End) (z : ℕ) → i < length before
-          → IsServedBy told engine m turns i (get_or (map link_of before) i x) (get_or (map link_of after) i x)
+          → IsServedBy observed engine m turns i (get_or (map link_of before) i x) (get_or (map link_of after) i x)
           (get_or (map end_of_job after) i y) (get_or (map lost_of after) i z)
       worker_of i x y z h =
           let j : Job L = record { pass = (0, [], 0); link = x; end = y; lost = z } in
           let inside : i < length after = omega (arith, long) in
-          subst (λ (w : L × L × End × ℕ). IsServedBy told engine m turns i w.0 w.1 w.2 w.3)
+          subst (λ (w : L × L × End × ℕ). IsServedBy observed engine m turns i w.0 w.1 w.2 w.3)
           (λ r. (
             sym (get_or-map link_of before i j x h) r,
             sym (get_or-map link_of after i j x inside) r,
@@ -271,7 +274,8 @@ module _ {L : Type 0} (told : L → LinkTold) (engine : Shards) (k : Knows) (tur
       timer_lost_is : lost ≡ risen 0 lost
       timer_lost_is = omega arith
 
-      pub served : HasServed told engine m t u c d orders (record { turns = turns; ticks = ticks }) (map link_of before) (map link_of after)
+      pub served : HasServed observed engine m t u c d orders (record { turns = turns; ticks = ticks }) (map link_of before)
+          (map link_of after)
           (end ∷ map end_of_job after) (risen lost (sum (map lost_of after)))
       served = record {
         own = mine l;

@@ -1,7 +1,8 @@
 -- The timer's ticks, one after another.
 use Rattle.bfd_serve.proofs.Common.{◌≡◌, ◌⊎◌, ◌+◌, ◌<◌, ◌≤◌, Bool, true, false, ◌++◌, length, drop, Option, Some, None, refl, ap, ap₂, sym}
 use Rattle.bfd_serve.proofs.Common.{◌∙◌, inl, inr, append_assoc, append-nil, length-append, length-map, dite, dec_lt, arith, drop-drop}
-use Rattle.bfd_serve.proofs.Common.{Datagram, Entry, Line, risen, LinkTold, Ticks, TickerTold, after_next, one_given, Shards, Knows, Act}
+use Rattle.bfd_serve.proofs.Common.{Datagram, Entry, Line, risen, LinkObserved, Ticks, TickerObserved, after_next, one_given, Shards, Knows}
+use Rattle.bfd_serve.proofs.Common.{Act}
 use Rattle.bfd_serve.proofs.Common.{seen_at, met_word, End, Ended, ClockFault, Full, Spent, Memory, orders_due, order_act, orders_acts}
 use Rattle.bfd_serve.proofs.Common.{tick_acts, ticks_acts, orders_left, timer_acts, Stops, IsStopped, IsWhole, more_given, IsTimerEnd}
 use Rattle.bfd_serve.proofs.Common.{is_clock_fault, HasTimed, IsTicking, IsFinished, ℕ, List, [], ◌∷◌}
@@ -20,7 +21,7 @@ given_one got t (Some x) = ap₂ (λ g l. Some (record { given = g; left = l }))
     (cc (drop-drop 1 (length got) x.left, length-append got (t ∷ [])))
 
 module _ (engine : Shards) where
-  pub ticking_start : (k : Knows) (t : LinkTold) (c : TickerTold) (orders : List Line) → c.over ≡ false
+  pub ticking_start : (k : Knows) (t : LinkObserved) (c : TickerObserved) (orders : List Line) → c.over ≡ false
       → IsTicking engine k k t t c c orders orders 0 0
   ticking_start k t c orders over = record {
     got = [];
@@ -33,7 +34,7 @@ module _ (engine : Shards) where
     over = over;
   }
 
-  pub ticking_more : {k l m : Knows} {t u v : LinkTold} {c d f : TickerTold} {orders left rest : List Line} {n : ℕ}
+  pub ticking_more : {k l m : Knows} {t u v : LinkObserved} {c d f : TickerObserved} {orders left rest : List Line} {n : ℕ}
       (tick : ℕ) {lost after : ℕ} → IsTicking engine k l t u c d orders left n lost → f ≡ after_next (next.Got tick) d
       → IsWhole engine (tick_acts engine left tick) l m u v lost after → rest ≡ drop (orders_due tick left) left
       → IsTicking engine k m t v c f orders rest (n + 1) after
@@ -56,7 +57,7 @@ module _ (engine : Shards) where
   no_clock_fault h w cut untried Memory s = refl
   no_clock_fault h w cut untried end s = absurd s
 
-  timer_end : (h : ℕ → List Entry) (w : ℕ → ℕ) (c d : TickerTold) (got : List ℕ) (ticks : ℕ) (cut : List Act) (untried : List Datagram)
+  timer_end : (h : ℕ → List Entry) (w : ℕ → ℕ) (c d : TickerObserved) (got : List ℕ) (ticks : ℕ) (cut : List Act) (untried : List Datagram)
       (end : End) → Stops engine h w cut untried end → d.faults ≡ c.faults → IsTimerEnd engine h w c d got ticks cut untried end
   timer_end h w c d got ticks cut untried (Full shard n) s none = (none, s)
   timer_end h w c d got ticks cut untried (Spent shard word) s none = (none, s)
@@ -64,7 +65,8 @@ module _ (engine : Shards) where
   timer_end h w c d got ticks cut untried end s none = absurd s
 
   -- the acts were stopped
-  timed_stop : {k l : Knows} {t u : LinkTold} (c d : TickerTold) (orders : List Line) {ticks : ℕ} {end : End} {lost : ℕ} (got : List ℕ)
+  timed_stop : {k l : Knows} {t u : LinkObserved} (c d : TickerObserved) (orders : List Line) {ticks : ℕ} {end : End} {lost : ℕ}
+      (got : List ℕ)
       → IsStopped engine (timer_acts engine orders got false) k l t u 0 lost end
       → d.ticks ≡ more_given got c.ticks → d.gave ≡ risen c.gave (length got) → length got ≤ ticks → d.faults ≡ c.faults
       → HasTimed engine k l t u c d orders ticks end lost
@@ -83,7 +85,7 @@ module _ (engine : Shards) where
   }
 
   -- a tick was stopped, or the orders before it
-  pub timed_cut : {k l m : Knows} {t u v : LinkTold} {c d f : TickerTold} {orders left : List Line} {n : ℕ}
+  pub timed_cut : {k l m : Knows} {t u v : LinkObserved} {c d f : TickerObserved} {orders left : List Line} {n : ℕ}
       (tick : ℕ) {ticks lost after : ℕ} {end : End} → IsTicking engine k l t u c d orders left n lost → f ≡ after_next (next.Got tick) d
       → IsStopped engine (tick_acts engine left tick) l m u v lost after end → n < ticks
       → HasTimed engine k m t v c f orders ticks end after
@@ -97,7 +99,7 @@ module _ (engine : Shards) where
       (cc (risen_join c.gave n 1)) (omega (arith, count)) (cc)
 
   -- the ticker failed
-  pub timed_fault : {k l : Knows} {t u : LinkTold} {c d f : TickerTold} {orders left : List Line} {n ticks lost : ℕ}
+  pub timed_fault : {k l : Knows} {t u : LinkObserved} {c d f : TickerObserved} {orders left : List Line} {n ticks lost : ℕ}
       → IsTicking engine k l t u c d orders left n lost → f ≡ after_next next.Failed d → n < ticks
       → HasTimed engine k l t u c f orders ticks ClockFault lost
   timed_fault {orders} g is less = record {
@@ -119,7 +121,8 @@ module _ (engine : Shards) where
   why_of is (inr x) = inr (cc)
 
   -- the orders that were left were given, or some of them
-  pub timed_finish : {k l m : Knows} {t u v : LinkTold} {c d f : TickerTold} {orders left : List Line} {n ticks lost after : ℕ} {end : End}
+  pub timed_finish : {k l m : Knows} {t u v : LinkObserved} {c d f : TickerObserved} {orders left : List Line} {n ticks lost
+      after : ℕ} {end : End}
       → IsTicking engine k l t u c d orders left n lost → f.ticks ≡ d.ticks → f.gave ≡ d.gave → f.faults ≡ d.faults → n ≤ ticks
       → (f.over ≡ true) ⊎ (n ≡ ticks) → IsFinished engine (orders_acts engine left) l m u v lost after end
       → HasTimed engine k m t v c f orders ticks end after
@@ -142,13 +145,14 @@ module _ (engine : Shards) where
       timed_stop c f orders g.got (rw (← g.left_is) (stopped_then engine g.whole s)) (cc) (cc) (omega arith) (cc)
 
   -- there was nothing to do
-  pub timed_idle : (k : Knows) (t : LinkTold) (c : TickerTold) (orders : List Line) (ticks : ℕ) → c.over ≡ false → ticks ≡ 0 → orders ≡ []
+  pub timed_idle : (k : Knows) (t : LinkObserved) (c : TickerObserved) (orders : List Line) (ticks : ℕ) → c.over ≡ false → ticks ≡ 0
+      → orders ≡ []
       → HasTimed engine k k t t c c orders ticks Ended 0
   timed_idle k t c orders ticks going none empty = timed_finish (ticking_start k t c orders going) refl refl refl (omega arith)
       (inr (sym none)) (inl (refl, rw empty (whole_none engine k t 0)))
 
   -- there was something to do, and nothing was done
-  pub timed_without : (k : Knows) (t : LinkTold) (c : TickerTold) (orders : List Line) (ticks : ℕ) → c.over ≡ false
+  pub timed_without : (k : Knows) (t : LinkObserved) (c : TickerObserved) (orders : List Line) (ticks : ℕ) → c.over ≡ false
       → 0 < ticks + length orders → HasTimed engine k k t t c c orders ticks Memory 0
   timed_without k t c orders ticks going some = record {
     got = [];

@@ -3,8 +3,8 @@ use Rattle.std.specs.Prelude.{◌≡◌, ◌⊎◌, ℕ, zero, suc, ◌+◌, ◌
 use Rattle.bfd_shard.specs.declared.entry.Entry.{Entry}
 use Rattle.bfd_script.specs.declared.line.entries.Line.{Line}
 use Rattle.bfd_edge.specs.Faults.{risen}
-use Rattle.bfd_edge.specs.Links.{LinkTold}
-use Rattle.bfd_edge.specs.Tickers.{TickerTold}
+use Rattle.bfd_edge.specs.Links.{LinkObserved}
+use Rattle.bfd_edge.specs.Tickers.{TickerObserved}
 use Rattle.bfd_engine.specs.Engines.{Shards}
 use Rattle.bfd_engine.specs.Calls.{Act}
 use Rattle.bfd_serve.specs.declared.ending.End.{End}
@@ -17,8 +17,9 @@ use Rattle.bfd_serve.specs.declared.run.finish.Finish.{Finish}
 use Rattle.bfd_serve.specs.declared.run.finish.Finish.TheVariants.{Done, LinkFault, ClockFault, JournalFull, Turns}
 use Rattle.bfd_serve.specs.Runs.{HaveRun, all_on}
 
-module _ (engine : Shards) (histories : ℕ → List Entry) (orders : List Line) (workers : ℕ) (limits : Limits) (before after : ℕ → LinkTold)
-    (c d : TickerTold) (ends : List End) (lost : ℕ)
+module _ (engine : Shards) (histories : ℕ → List Entry) (orders : List Line) (workers : ℕ) (limits : Limits)
+    (before after : ℕ → LinkObserved)
+    (c d : TickerObserved) (ends : List End) (lost : ℕ)
     (run : HaveRun engine histories orders workers limits before after c d ends lost) where
   -- every link of a worker ended, the ticker ended or gave its limit of ticks, and no call of any caller is left out
   pub record IsRunDone : Type 0 where

@@ -1,6 +1,6 @@
 -- A worker's job before and after.
 use Rattle.std.specs.Prelude.{◌≡◌, ℕ, false}
-use Rattle.bfd_edge.specs.Links.{LinkTold}
+use Rattle.bfd_edge.specs.Links.{LinkObserved}
 use Rattle.bfd_engine.specs.Engines.{Shards, Knows, IsOf, AllThere}
 use Rattle.bfd_serve.specs.declared.ending.End.{End}
 use Rattle.bfd_serve.specs.declared.jobs.Job.{Job}
@@ -19,10 +19,10 @@ module _ {L : Type 0} where
   abbrev pub lost_of : Job L → ℕ
   lost_of job = job.lost
 
-module _ {L : Type 0} (told : L → LinkTold) where
+module _ {L : Type 0} (observed : L → LinkObserved) where
   -- the link hasn't answered Ended
   abbrev pub IsOpen : L → Type 0
-  IsOpen link = (told link).counts.over ≡ false
+  IsOpen link = (observed link).counts.over ≡ false
 
   module _ (engine : Shards) where
     -- what a worker requires of its job
@@ -35,4 +35,4 @@ module _ {L : Type 0} (told : L → LinkTold) where
     pub record IsWorked (turns : ℕ) (before after : Job L) : Type 0 where
       pub of : IsOf engine after.pass.1
       pub there : AllThere after.pass.1
-      pub worked : HasWorked engine before.pass after.pass (told before.link) (told after.link) turns after.end after.lost
+      pub worked : HasWorked engine before.pass after.pass (observed before.link) (observed after.link) turns after.end after.lost

@@ -10,8 +10,8 @@ use Rattle.bfd_shard.specs.Shard.{Shard, IsShard}
 use Rattle.bfd_script.specs.declared.line.entries.Line.{Line}
 use Rattle.bfd_script.specs.Reading.{Lists}
 use Rattle.bfd_edge.specs.Faults.{risen}
-use Rattle.bfd_edge.specs.Links.{LinkTold}
-use Rattle.bfd_edge.specs.Tickers.{TickerTold}
+use Rattle.bfd_edge.specs.Links.{LinkObserved}
+use Rattle.bfd_edge.specs.Tickers.{TickerObserved}
 use Rattle.bfd_engine.specs.Turned.{by}
 use Rattle.bfd_shard.specs.Dealing.{share}
 use Rattle.bfd_engine.specs.Engines.{Shards, configs_at}
@@ -35,19 +35,20 @@ abbrev pub no_words : ℕ → ℕ
 no_words shard = 0
 
 -- what is observed of the link of a number, of caller 0's and the workers'
-abbrev pub told_on_link : {L : Type 0} → (L → LinkTold) → L → List L → ℕ → LinkTold
-told_on_link told own links number = told (slice_index_or (own ∷ links) number own)
+abbrev pub observed_on_link : {L : Type 0} → (L → LinkObserved) → L → List L → ℕ → LinkObserved
+observed_on_link observed own links number = observed (slice_index_or (own ∷ links) number own)
 
 -- what the timer did of all that it had to do at the ticks that its ticker gave: shard by shard, the entries of caller 0 in the
 -- histories are those of its calls, without the calls that Full left out
-pub record TimerRan (engine : Shards) (histories : ℕ → List Entry) (t u : LinkTold) (c d : TickerTold) (orders : List Line) (ticks : ℕ)
+pub record TimerRan (engine : Shards) (histories : ℕ → List Entry) (t u : LinkObserved) (c d : TickerObserved) (orders : List Line)
+    (ticks : ℕ)
     (end : End) (missing : ℕ) : Type 0 where
   pub own : ℕ → List Entry
   pub own_is : (shard : ℕ) → shard < length engine.locks → calls by 0 (histories shard) ≡ own shard
   pub did : TimerDid engine own histories no_words t u c d orders ticks end missing
 
 -- the same of the worker of this number, by the arrivals that its link gave
-pub record WorkerRan (engine : Shards) (histories : ℕ → List Entry) (number : ℕ) (t u : LinkTold) (turns : ℕ) (end : End)
+pub record WorkerRan (engine : Shards) (histories : ℕ → List Entry) (number : ℕ) (t u : LinkObserved) (turns : ℕ) (end : End)
     (missing : ℕ) : Type 0 where
   pub own : ℕ → List Entry
   pub own_is : (shard : ℕ) → shard < length engine.locks → calls by number (histories shard) ≡ own shard
@@ -55,7 +56,7 @@ pub record WorkerRan (engine : Shards) (histories : ℕ → List Entry) (number 
 
 -- what all did, when the links were observed as `before` and then as `after`, by number. No entry names any other caller
 pub record HaveRun (engine : Shards) (histories : ℕ → List Entry) (orders : List Line) (workers : ℕ) (limits : Limits)
-    (before after : ℕ → LinkTold) (c d : TickerTold) (ends : List End) (lost : ℕ) : Type 0 where
+    (before after : ℕ → LinkObserved) (c d : TickerObserved) (ends : List End) (lost : ℕ) : Type 0 where
   pub timer_end : End
   pub timer_missing : ℕ
   pub timer : TimerRan engine histories (before 0) (after 0) c d orders limits.ticks timer_end timer_missing

@@ -7,8 +7,8 @@ use Rattle.bfd_shard.specs.declared.entry.Entry.{Entry}
 use Rattle.bfd_script.specs.declared.line.entries.Line.{Line}
 use Rattle.bfd_turn.specs.Lists.{numbers_of}
 use Rattle.bfd_edge.specs.Faults.{risen}
-use Rattle.bfd_edge.specs.Links.{LinkTold, more_traffic}
-use Rattle.bfd_edge.specs.Tickers.{TickerTold}
+use Rattle.bfd_edge.specs.Links.{LinkObserved, more_traffic}
+use Rattle.bfd_edge.specs.Tickers.{TickerObserved}
 use Rattle.bfd_engine.specs.Engines.{Shards, Knows, IsOf, AllThere}
 use Rattle.bfd_engine.specs.Calls.{Act, seen_at, met_word, taken_at, kept_at, made_at, mine}
 use Rattle.bfd_serve.specs.declared.ending.End.{End}
@@ -19,7 +19,7 @@ use Rattle.bfd_serve.specs.Orders.{timer_acts}
 use Rattle.bfd_serve.specs.Ticks.{IsTimerEnd, is_clock_fault, more_given, HasTimed}
 
 -- the timer, with what each call requires of a pass
-pub record IsTended (engine : Shards) (k l : Knows) (t u : LinkTold) (c d : TickerTold) (orders : List Line) (ticks : ℕ) (end : End)
+pub record IsTended (engine : Shards) (k l : Knows) (t u : LinkObserved) (c d : TickerObserved) (orders : List Line) (ticks : ℕ) (end : End)
     (lost : ℕ) : Type 0 where
   pub of : IsOf engine l.1
   pub there : AllThere l.1
@@ -28,7 +28,7 @@ pub record IsTended (engine : Shards) (k l : Knows) (t u : LinkTold) (c d : Tick
 -- what a caller's acts `done` left on each shard, when in the end the shards have these histories: its own entries there are
 -- exactly those of their calls. Their packets were sent in order on its link, except those that failed and the last ones, which weren't
 -- tried. In the end it has the same link
-pub record HasDone (engine : Shards) (caller : ℕ) (own histories : ℕ → List Entry) (t u : LinkTold) (heard : List (ℕ × Arrival))
+pub record HasDone (engine : Shards) (caller : ℕ) (own histories : ℕ → List Entry) (t u : LinkObserved) (heard : List (ℕ × Arrival))
     (done : List Act) (untried : List Datagram) (lost : ℕ) : Type 0 where
   pub gains : (shard : ℕ) → own shard ≡ entries caller shard (calls_of done)
   pub tried : List Datagram
@@ -43,7 +43,7 @@ pub record HasDone (engine : Shards) (caller : ℕ) (own histories : ℕ → Lis
 
 -- what a worker did: of the arrivals that its link gave, those of `done` were handled, and those of `cut` were not. The link gave
 -- `turned` answers, of which some may be Quiet
-pub record WorkerDid (engine : Shards) (caller : ℕ) (own histories : ℕ → List Entry) (words : ℕ → ℕ) (t u : LinkTold) (turns : ℕ)
+pub record WorkerDid (engine : Shards) (caller : ℕ) (own histories : ℕ → List Entry) (words : ℕ → ℕ) (t u : LinkObserved) (turns : ℕ)
     (end : End) (lost : ℕ) : Type 0 where
   pub done : List (ℕ × Arrival)
   pub cut : List (ℕ × Arrival)
@@ -57,7 +57,7 @@ pub record WorkerDid (engine : Shards) (caller : ℕ) (own histories : ℕ → L
 
 -- what the timer did: of all that it had to do at the ticks that its ticker gave, the acts of `done` were done, and those of
 -- `cut` were not
-pub record TimerDid (engine : Shards) (own histories : ℕ → List Entry) (words : ℕ → ℕ) (t u : LinkTold) (c d : TickerTold)
+pub record TimerDid (engine : Shards) (own histories : ℕ → List Entry) (words : ℕ → ℕ) (t u : LinkObserved) (c d : TickerObserved)
     (orders : List Line) (ticks : ℕ) (end : End) (lost : ℕ) : Type 0 where
   pub got : List ℕ
   pub done : List Act
@@ -71,17 +71,17 @@ pub record TimerDid (engine : Shards) (own histories : ℕ → List Entry) (word
   pub few : length got ≤ ticks
   pub ends : IsTimerEnd engine histories words c d got ticks cut untried end
 
-module _ {L : Type 0} (told : L → LinkTold) (engine : Shards) where
+module _ {L : Type 0} (observed : L → LinkObserved) (engine : Shards) where
   -- what the worker of the link at this place did: its caller's number is one more, and its own entries on each shard are the
   -- calls that the pass l of caller 0 keeps of it
   pub record IsServedBy (l : Knows) (turns at : ℕ) (link back : L) (end : End) (lost : ℕ) : Type 0 where
     pub own : ℕ → List Entry
     pub kept : (shard : ℕ) → shard < length engine.locks → slice_get (kept_at l shard) at ≡ Some (at + 1, own shard)
-    pub worked : WorkerDid engine (at + 1) own (seen_at l) (met_word l) (told link) (told back) turns end lost
+    pub worked : WorkerDid engine (at + 1) own (seen_at l) (met_word l) (observed link) (observed back) turns end lost
 
   -- what all did, by the pass l of caller 0 in the end: its own calls are the timer's, and it keeps the calls of each worker and
   -- of nobody else. Every pass that was made was joined
-  pub record HasServed (l : Knows) (t u : LinkTold) (c d : TickerTold) (orders : List Line) (limits : Limits) (links back : List L)
+  pub record HasServed (l : Knows) (t u : LinkObserved) (c d : TickerObserved) (orders : List Line) (limits : Limits) (links back : List L)
       (ends : List End) (lost : ℕ) : Type 0 where
     pub own : ℕ → List Entry
     pub own_is : (shard : ℕ) → shard < length engine.locks → mine l shard ≡ own shard

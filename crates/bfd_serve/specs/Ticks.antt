@@ -4,8 +4,8 @@ use Rattle.bfd_packet.specs.declared.arrival.Datagram.{Datagram}
 use Rattle.bfd_shard.specs.declared.entry.Entry.{Entry}
 use Rattle.bfd_script.specs.declared.line.entries.Line.{Line}
 use Rattle.bfd_edge.specs.Faults.{risen}
-use Rattle.bfd_edge.specs.Links.{LinkTold}
-use Rattle.bfd_edge.specs.Tickers.{Ticks, TickerTold}
+use Rattle.bfd_edge.specs.Links.{LinkObserved}
+use Rattle.bfd_edge.specs.Tickers.{Ticks, TickerObserved}
 use Rattle.bfd_engine.specs.Engines.{Shards, Knows}
 use Rattle.bfd_engine.specs.Calls.{Act, seen_at, met_word}
 use Rattle.bfd_serve.specs.declared.ending.End.{End}
@@ -19,7 +19,8 @@ more_given got None = None
 more_given got (Some ticks) = Some (record { given = ticks.given ++ got; left = drop (length got) ticks.left })
 
 -- why the timer ended, and what is left out of its acts and its sends; when out of memory, some of these or of its ticks are
-abbrev pub IsTimerEnd : Shards → (ℕ → List Entry) → (ℕ → ℕ) → TickerTold → TickerTold → List ℕ → ℕ → List Act → List Datagram → End → Type 0
+abbrev pub IsTimerEnd : Shards → (ℕ → List Entry) → (ℕ → ℕ) → TickerObserved → TickerObserved → List ℕ → ℕ → List Act → List Datagram → End
+    → Type 0
 IsTimerEnd engine histories words c d got ticks cut untried Ended =
     (cut ≡ []) × (untried ≡ []) × (d.faults ≡ c.faults) × ((d.over ≡ true) ⊎ (length got ≡ ticks))
 IsTimerEnd engine histories words c d got ticks cut untried ClockFault =
@@ -44,7 +45,7 @@ is_clock_fault Memory = false
 
 -- what the timer did: of its acts at the ticks that its ticker gave in this run, those of `done` were done, and those of `cut`
 -- were not. Only after Full, Spent or Memory can `cut` have some
-pub record HasTimed (engine : Shards) (k l : Knows) (t u : LinkTold) (c d : TickerTold) (orders : List Line) (ticks : ℕ) (end : End)
+pub record HasTimed (engine : Shards) (k l : Knows) (t u : LinkObserved) (c d : TickerObserved) (orders : List Line) (ticks : ℕ) (end : End)
     (lost : ℕ) : Type 0 where
   pub got : List ℕ
   pub done : List Act
@@ -59,7 +60,7 @@ pub record HasTimed (engine : Shards) (k l : Knows) (t u : LinkTold) (c d : Tick
   pub ends : IsTimerEnd engine (seen_at l) (met_word l) c d got ticks cut untried end
 
 -- the same after so many ticks, with no end, and these orders left
-pub record IsTicking (engine : Shards) (k l : Knows) (t u : LinkTold) (c d : TickerTold) (orders left : List Line) (count : ℕ)
+pub record IsTicking (engine : Shards) (k l : Knows) (t u : LinkObserved) (c d : TickerObserved) (orders left : List Line) (count : ℕ)
     (lost : ℕ) : Type 0 where
   pub got : List ℕ
   pub whole : IsWhole engine (ticks_acts engine orders got) k l t u 0 lost
@@ -71,6 +72,6 @@ pub record IsTicking (engine : Shards) (k l : Knows) (t u : LinkTold) (c d : Tic
   pub over : d.over ≡ false
 
 -- all acts were done, or some of them
-abbrev pub IsFinished : Shards → List Act → Knows → Knows → LinkTold → LinkTold → ℕ → ℕ → End → Type 0
+abbrev pub IsFinished : Shards → List Act → Knows → Knows → LinkObserved → LinkObserved → ℕ → ℕ → End → Type 0
 IsFinished engine acts k l t u lost after end =
     ((end ≡ Ended) × IsWhole engine acts k l t u lost after) ⊎ IsStopped engine acts k l t u lost after end

@@ -9,7 +9,7 @@ use Rattle.bfd_shard.specs.declared.entry.ShardEvent.{ShardEvent}
 use Rattle.bfd_turn.specs.Lists.{Begins}
 use Rattle.bfd_turn.specs.Passes.{last_word}
 use Rattle.bfd_edge.specs.Faults.{risen}
-use Rattle.bfd_edge.specs.Links.{LinkTold, more_traffic}
+use Rattle.bfd_edge.specs.Links.{LinkObserved, more_traffic}
 use Rattle.bfd_engine.specs.declared.fault.EngineFault.{EngineFault}
 use Rattle.bfd_engine.specs.declared.fault.EngineFault.TheVariants as fault
 use Rattle.bfd_engine.specs.Engines.{Shards, Knows, configs_at}
@@ -19,13 +19,13 @@ use Rattle.bfd_serve.specs.declared.ending.End.TheVariants.{Ended, LinkFault, Cl
 use Rattle.bfd_serve.specs.Calls.{calls_of, entries, datagrams, sends_of_acts, Lacks, worker_acts}
 
 -- the packets of some outputs were sent, except those that failed and these last ones, which weren't tried
-pub record HasSent (packets untried : List Datagram) (t u : LinkTold) (lost after : ℕ) : Type 0 where
+pub record HasSent (packets untried : List Datagram) (t u : LinkObserved) (lost after : ℕ) : Type 0 where
   pub tried : List Datagram
   pub kept : List Datagram
   pub missing : ℕ
   pub parts : packets ≡ tried ++ untried
   pub lacks : Lacks tried kept missing
-  pub told : u ≡ record t {
+  pub observed : u ≡ record t {
     traffic = more_traffic [] kept t.traffic;
     counts = record t.counts { send_faults = risen t.counts.send_faults missing };
   }
@@ -38,7 +38,7 @@ end_of (fault.Full shard length) = Full shard length
 end_of (fault.Spent shard word) = Spent shard word
 
 -- what was sent after a call of the engine: nothing after a fault; else all, or all but the last ones when out of memory
-abbrev pub IsSentAfter : Result Answer EngineFault → List Out → LinkTold → LinkTold → ℕ → ℕ → Result (Unit {0}) End → Type 0
+abbrev pub IsSentAfter : Result Answer EngineFault → List Out → LinkObserved → LinkObserved → ℕ → ℕ → Result (Unit {0}) End → Type 0
 IsSentAfter (Err f) outs t u lost after result = (result ≡ Err (end_of f)) × (u ≡ t) × (after ≡ lost)
 IsSentAfter (Ok answer) outs t u lost after (Ok done) = HasSent (datagrams outs) [] t u lost after
 IsSentAfter (Ok answer) outs t u lost after (Err end) =
@@ -47,7 +47,8 @@ IsSentAfter (Ok answer) outs t u lost after (Err end) =
 -- a caller's pass k became l by the acts `done`, and its link, the same one, was observed as t and then as u. What the pass gained on
 -- each shard are exactly the entries of their calls. Their packets were sent in order, except those that failed and the last ones, which
 -- weren't tried. Of the acts `cut` no call added an entry
-pub record Did (engine : Shards) (k l : Knows) (t u : LinkTold) (heard : List (ℕ × Arrival)) (done cut : List Act) (untried : List Datagram)
+pub record Did (engine : Shards) (k l : Knows) (t u : LinkObserved) (heard : List (ℕ × Arrival)) (done cut : List Act)
+    (untried : List Datagram)
     (lost after : ℕ) : Type 0 where
   pub number : l.0 ≡ k.0
   pub used : l.2 ≡ k.2
@@ -86,13 +87,13 @@ Stops engine histories words cut untried ClockFault = ⊥
 Stops engine histories words cut untried (TurnsMade n) = ⊥
 
 -- what is observed of a link's receiving is as before
-pub record IsAside (t u : LinkTold) : Type 0 where
+pub record IsAside (t u : LinkObserved) : Type 0 where
   pub over : u.counts.over ≡ t.counts.over
   pub receive_faults : u.counts.receive_faults ≡ t.counts.receive_faults
   pub gave : u.counts.gave ≡ t.counts.gave
 
 -- the acts were done up to a place
-pub record IsStopped (engine : Shards) (acts : List Act) (k l : Knows) (t u : LinkTold) (lost after : ℕ) (end : End) : Type 0 where
+pub record IsStopped (engine : Shards) (acts : List Act) (k l : Knows) (t u : LinkObserved) (lost after : ℕ) (end : End) : Type 0 where
   pub done : List Act
   pub cut : List Act
   pub untried : List Datagram
@@ -102,12 +103,12 @@ pub record IsStopped (engine : Shards) (acts : List Act) (k l : Knows) (t u : Li
   pub stops : Stops engine (seen_at l) (met_word l) cut untried end
 
 -- all acts were done
-pub record IsWhole (engine : Shards) (acts : List Act) (k l : Knows) (t u : LinkTold) (lost after : ℕ) : Type 0 where
+pub record IsWhole (engine : Shards) (acts : List Act) (k l : Knows) (t u : LinkObserved) (lost after : ℕ) : Type 0 where
   pub did : Did engine k l t u [] acts [] [] lost after
   pub aside : IsAside t u
 
 -- what was done of some acts
-abbrev pub AreDone : Shards → List Act → Knows → Knows → LinkTold → LinkTold → ℕ → ℕ → Result (Unit {0}) End → Type 0
+abbrev pub AreDone : Shards → List Act → Knows → Knows → LinkObserved → LinkObserved → ℕ → ℕ → Result (Unit {0}) End → Type 0
 AreDone engine acts k l t u lost after (Ok done) = IsWhole engine acts k l t u lost after
 AreDone engine acts k l t u lost after (Err end) = IsStopped engine acts k l t u lost after end
 
@@ -124,7 +125,7 @@ pub record IsTooWide (engine : Shards) : Type 0 where
 
 -- why a worker ended that made so many turns of its number, and what is left out of its acts and its sends; when out of memory, some of
 -- these or of its turns are
-abbrev pub IsWorkerEnd : Shards → (ℕ → List Entry) → (ℕ → ℕ) → LinkTold → LinkTold → ℕ → ℕ → List Act → List Datagram → End → Type 0
+abbrev pub IsWorkerEnd : Shards → (ℕ → List Entry) → (ℕ → ℕ) → LinkObserved → LinkObserved → ℕ → ℕ → List Act → List Datagram → End → Type 0
 IsWorkerEnd engine histories words t u turned turns cut untried Ended =
     (cut ≡ []) × (untried ≡ []) × (u.counts.over ≡ true) × (u.counts.receive_faults ≡ t.counts.receive_faults)
 IsWorkerEnd engine histories words t u turned turns cut untried LinkFault =
@@ -143,7 +144,7 @@ IsWorkerEnd engine histories words t u turned turns cut untried ClockFault = ⊥
 
 -- what a worker did: of the arrivals that its link gave in this run, those of `done` were handled, and those of `cut` were not. Only
 -- after Full, Spent or Memory can `cut` have some. The link gave `turned` answers, of which some may be Quiet
-pub record HasWorked (engine : Shards) (k l : Knows) (t u : LinkTold) (turns : ℕ) (end : End) (lost : ℕ) : Type 0 where
+pub record HasWorked (engine : Shards) (k l : Knows) (t u : LinkObserved) (turns : ℕ) (end : End) (lost : ℕ) : Type 0 where
   pub done : List (ℕ × Arrival)
   pub cut : List (ℕ × Arrival)
   pub untried : List Datagram
@@ -155,7 +156,7 @@ pub record HasWorked (engine : Shards) (k l : Knows) (t u : LinkTold) (turns : �
   pub few : turned ≤ turns
 
 -- the same after so many turns, with no end
-pub record IsWorking (engine : Shards) (k l : Knows) (t u : LinkTold) (count : ℕ) (lost : ℕ) : Type 0 where
+pub record IsWorking (engine : Shards) (k l : Knows) (t u : LinkObserved) (count : ℕ) (lost : ℕ) : Type 0 where
   pub done : List (ℕ × Arrival)
   pub did : Did engine k l t u done (worker_acts engine done) [] [] 0 lost
   pub over : u.counts.over ≡ false

@@ -62,8 +62,8 @@ pub(crate) fn handle<W: Timers, L: Link, R: Wait>(
     ensures of { IsOf engine.now pass.new.1 }
     ensures there { AllThere pass.new.1 }
     ensures room { outs.new.room ≡ outs.old.room }
-    ensures done { AreDone engine.now (arrival_act engine.now moment arrival ∷ []) pass.old pass.new (L.told link.old)
-        (L.told link.new) lost.old lost.new result }
+    ensures done { AreDone engine.now (arrival_act engine.now moment arrival ∷ []) pass.old pass.new (L.observed link.old)
+        (L.observed link.new) lost.old lost.new result }
 {
     outs.clear();
     let outcome = receive::<W, R, Brand>(rt, engine, pass, moment, arrival, outs, Blank::new(1));
@@ -116,8 +116,8 @@ pub(crate) fn give<W: Timers, L: Link, R: Wait>(
     ensures of { IsOf engine.now pass.new.1 }
     ensures there { AllThere pass.new.1 }
     ensures room { outs.new.room ≡ outs.old.room }
-    ensures done { AreDone engine.now (order_act engine.now order.now ∷ []) pass.old pass.new (L.told link.old)
-        (L.told link.new) lost.old lost.new result }
+    ensures done { AreDone engine.now (order_act engine.now order.now ∷ []) pass.old pass.new (L.observed link.old)
+        (L.observed link.new) lost.old lost.new result }
 {
     outs.clear();
     let outcome = ask::<W, R, Brand>(rt, engine, pass, order, outs, Blank::new(1));
@@ -166,8 +166,8 @@ pub(crate) fn advance<W: Timers, L: Link, R: Wait>(
     ensures of { IsOf engine.now pass.new.1 }
     ensures there { AllThere pass.new.1 }
     ensures room { outs.new.room ≡ outs.old.room }
-    ensures done { AreDone engine.now (Turns shard (TickEvent tick) ∷ []) pass.old pass.new (L.told link.old)
-        (L.told link.new) lost.old lost.new result }
+    ensures done { AreDone engine.now (Turns shard (TickEvent tick) ∷ []) pass.old pass.new (L.observed link.old)
+        (L.observed link.new) lost.old lost.new result }
 {
     outs.clear();
     let outcome = advance_shard::<W, R, Brand>(rt, engine, pass, shard, tick, outs, Blank::new(1));

@@ -27,8 +27,8 @@ pub(crate) fn work<W: Timers, L: Link, G: Gate, R: Wait>(
     gate: &G,
     turns: u64,
 )
-    requires { IsReady L.told engine.now job.old }
-    ensures { IsWorked L.told engine.now turns job.old job.new }
+    requires { IsReady L.observed engine.now job.old }
+    ensures { IsWorked L.observed engine.now turns job.old job.new }
 {
     let (end, lost) = worker(rt, alloc, engine, &mut job.pass, &mut job.link, gate, turns);
     job.end = end;

@@ -14,9 +14,9 @@ use std::alloc::AllocError;
 /// Sends the packet of an output, if it is one. One that fails is counted as lost; out of memory leaves all as it was.
 #[tactic(auto, using(crate::proofs::Packets::sent_none, crate::proofs::Packets::sent_ok, crate::proofs::Packets::sent_failed, crate::proofs::Packets::unsent))]
 fn send_one<L: Link>(link: &mut L, out: &Out, lost: &mut u64) -> Result<(), AllocError>
-    ensures sent { OnOk result (HasSent (datagrams (out.now ∷ [])) [] (L.told link.old) (L.told link.new)
+    ensures sent { OnOk result (HasSent (datagrams (out.now ∷ [])) [] (L.observed link.old) (L.observed link.new)
         lost.old lost.new) }
-    ensures refused { OnErr result ((L.told link.new ≡ L.told link.old) × (lost.new ≡ lost.old)) }
+    ensures refused { OnErr result ((L.observed link.new ≡ L.observed link.old) × (lost.new ≡ lost.old)) }
     ensures some { OnErr result (0 < length (datagrams (out.now ∷ []))) }
 {
     match out {
@@ -34,9 +34,9 @@ fn send_one<L: Link>(link: &mut L, out: &Out, lost: &mut u64) -> Result<(), Allo
 
 /// Sends the packets of some outputs, in order. One that fails is counted as lost; out of memory ends it.
 fn send_all<L: Link>(link: &mut L, outs: &[Out], lost: &mut u64) -> Result<(), AllocError>
-    ensures sent { OnOk result (HasSent (datagrams outs.now) [] (L.told link.old) (L.told link.new) lost.old lost.new) }
+    ensures sent { OnOk result (HasSent (datagrams outs.now) [] (L.observed link.old) (L.observed link.new) lost.old lost.new) }
     ensures refused { OnErr result ((untried : List Packet)
-        × HasSent (datagrams outs.now) untried (L.told link.old) (L.told link.new) lost.old lost.new
+        × HasSent (datagrams outs.now) untried (L.observed link.old) (L.observed link.new) lost.old lost.new
         × (0 < length untried)) }
 {
     for out in outs {
@@ -65,7 +65,7 @@ pub(crate) fn settle<L: Link>(
     outs: &[Out],
     lost: &mut u64,
 ) -> Result<(), End>
-    ensures { IsSentAfter outcome outs.now (L.told link.old) (L.told link.new) lost.old lost.new result }
+    ensures { IsSentAfter outcome outs.now (L.observed link.old) (L.observed link.new) lost.old lost.new result }
 {
     if let Err(fault) = outcome {
         return Err(ended(fault));

@@ -148,8 +148,8 @@ fn run_all<
     limits: Limits,
 ) -> Served<L>
     requires split { HasSplit engine.now first.old passes.items (length links.items) }
-    requires clock { (T.told ticker.old).over ≡ false }
-    requires open { All (IsOpen L.told) links.items }
+    requires clock { (T.observed ticker.old).over ≡ false }
+    requires open { All (IsOpen L.observed) links.items }
     requires jobs { (room.jobs.items ≡ []) × (length links.items ≤ vec_capacity room.jobs) }
     requires back { (room.links.items ≡ []) × (length links.items ≤ vec_capacity room.links) }
     requires ends { (room.ends.items ≡ []) × (length links.items + 1 ≤ vec_capacity room.ends) }
@@ -157,8 +157,8 @@ fn run_all<
     ensures of { IsOf engine.now first.new.1 }
     ensures there { AllThere first.new.1 }
     ensures number { first.new.0 ≡ 0 }
-    ensures served { HasServed L.told engine.now first.new (L.told own.old) (L.told own.new) (T.told ticker.old)
-        (T.told ticker.new) orders.now limits links.items result.links.items result.ends.items result.lost }
+    ensures served { HasServed L.observed engine.now first.new (L.observed own.old) (L.observed own.new) (T.observed ticker.old)
+        (T.observed ticker.new) orders.now limits links.items result.links.items result.ends.items result.lost }
 {
     let Room {
         jobs,
@@ -213,16 +213,16 @@ pub fn serve<
 ) -> Result<Served<L>, Vec<L>>
     requires new { IsNewPass engine.now first.old }
     requires few { length links.items ≤ 64 }
-    requires clock { (T.told ticker.old).over ≡ false }
-    requires open { All (IsOpen L.told) links.items }
+    requires clock { (T.observed ticker.old).over ≡ false }
+    requires open { All (IsOpen L.observed) links.items }
     ensures of { IsOf engine.now first.new.1 }
     ensures there { AllThere first.new.1 }
     ensures number { first.new.0 ≡ 0 }
-    ensures served { IfOk result (λ served. HasServed L.told engine.now first.new (L.told own.old) (L.told own.new)
-        (T.told ticker.old) (T.told ticker.new)
+    ensures served { IfOk result (λ served. HasServed L.observed engine.now first.new (L.observed own.old) (L.observed own.new)
+        (T.observed ticker.old) (T.observed ticker.new)
         orders.now limits links.items served.links.items served.ends.items served.lost) }
     ensures refused { IfErr result (λ back. (back.items ≡ links.items) × IsUnserved engine.now first.new
-        × (L.told own.new ≡ L.told own.old) × (T.told ticker.new ≡ T.told ticker.old)) }
+        × (L.observed own.new ≡ L.observed own.old) × (T.observed ticker.new ≡ T.observed ticker.old)) }
 {
     let count = links.len();
     let Ok(room) = reserve(alloc, count) else {

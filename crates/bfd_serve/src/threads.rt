@@ -26,9 +26,9 @@ fn work_all<W: Timers + Send, L: Link + Send, G: Gate + Sync, R: Threads + Wait 
     gate: &G,
     turns: u64,
 )
-    requires { All (IsReady L.told engine.now) jobs.old }
+    requires { All (IsReady L.observed engine.now) jobs.old }
     ensures worked { (at : ℕ) (d : _) → at < length jobs.old
-        → IsWorked L.told engine.now turns (slice_index_or jobs.old at d) (slice_index_or jobs.new at d) }
+        → IsWorked L.observed engine.now turns (slice_index_or jobs.old at d) (slice_index_or jobs.new at d) }
     ensures long { length jobs.new ≡ length jobs.old }
 {
     thread::for_each_mut(
@@ -36,8 +36,8 @@ fn work_all<W: Timers + Send, L: Link + Send, G: Gate + Sync, R: Threads + Wait 
         jobs,
         64,
         &|_, job: &mut Job<L>|
-            requires { IsReady L.told engine.now job.now }
-            ensures { IsWorked L.told engine.entry.now turns job.entry.now job.exit.now }
+            requires { IsReady L.observed engine.now job.now }
+            ensures { IsWorked L.observed engine.entry.now turns job.entry.now job.exit.now }
         { work(rt, alloc, engine, job, gate, turns) },
     );
 }
@@ -64,25 +64,25 @@ pub(crate) fn beside<
 ) -> (End, u64)
     requires of { IsOf engine.now first.old.1 }
     requires there { AllThere first.old.1 }
-    requires open { (T.told ticker.old).over ≡ false }
-    requires jobs { All (IsReady L.told engine.now) jobs.old }
-    ensures tended { IsTended engine.now first.old first.new (L.told own.old) (L.told own.new) (T.told ticker.old)
-        (T.told ticker.new) orders.now ticks result.0 result.1 }
+    requires open { (T.observed ticker.old).over ≡ false }
+    requires jobs { All (IsReady L.observed engine.now) jobs.old }
+    ensures tended { IsTended engine.now first.old first.new (L.observed own.old) (L.observed own.new) (T.observed ticker.old)
+        (T.observed ticker.new) orders.now ticks result.0 result.1 }
     ensures long { length jobs.new ≡ length jobs.old }
     ensures worked { (at : ℕ) (d : _) → at < length jobs.old
-        → IsWorked L.told engine.now turns (slice_index_or jobs.old at d) (slice_index_or jobs.new at d) }
+        → IsWorked L.observed engine.now turns (slice_index_or jobs.old at d) (slice_index_or jobs.new at d) }
 {
     let mut worked = ||
-        requires { All (IsReady L.told engine.now) jobs.now }
+        requires { All (IsReady L.observed engine.now) jobs.now }
         ensures worked { (at : ℕ) (d : _) → at < length jobs.entry.now
-            → IsWorked L.told engine.entry.now turns (slice_index_or jobs.entry.now at d)
+            → IsWorked L.observed engine.entry.now turns (slice_index_or jobs.entry.now at d)
             (slice_index_or jobs.exit.now at d) }
         ensures long { length jobs.exit.now ≡ length jobs.entry.now }
     { work_all(rt, alloc, engine, jobs, gate, turns) };
     let mut timed = || -> (End, u64)
-        requires { IsOf engine.now first.now.1 × AllThere first.now.1 × ((T.told ticker.now).over ≡ false) }
-        ensures { IsTended engine.entry.now first.entry.now first.exit.now (L.told own.entry.now) (L.told own.exit.now)
-            (T.told ticker.entry.now) (T.told ticker.exit.now) orders.entry.now ticks result.0 result.1 }
+        requires { IsOf engine.now first.now.1 × AllThere first.now.1 × ((T.observed ticker.now).over ≡ false) }
+        ensures { IsTended engine.entry.now first.entry.now first.exit.now (L.observed own.entry.now) (L.observed own.exit.now)
+            (T.observed ticker.entry.now) (T.observed ticker.exit.now) orders.entry.now ticks result.0 result.1 }
     { timer(rt, alloc, engine, first, own, ticker, orders, ticks) };
     let (ended, _) = join_mut(rt, &mut timed, &mut worked);
     ended

@@ -59,8 +59,8 @@ fn give_all<W: Timers, L: Link, R: Wait>(
     ensures of { IsOf engine.now pass.new.1 }
     ensures there { AllThere pass.new.1 }
     ensures room { outs.new.room ≡ outs.old.room }
-    ensures done { AreDone engine.now (orders_acts engine.now orders.now) pass.old pass.new (L.told link.old)
-        (L.told link.new) lost.old lost.new result }
+    ensures done { AreDone engine.now (orders_acts engine.now orders.now) pass.old pass.new (L.observed link.old)
+        (L.observed link.new) lost.old lost.new result }
 {
     for at in 0..orders.len() {
         if let Err(end) = give(rt, engine, pass, link, &orders[at], outs, lost) {
@@ -86,8 +86,8 @@ fn advance_all<W: Timers, L: Link, R: Wait>(
     ensures of { IsOf engine.now pass.new.1 }
     ensures there { AllThere pass.new.1 }
     ensures room { outs.new.room ≡ outs.old.room }
-    ensures done { AreDone engine.now (advances (length engine.now.locks) tick) pass.old pass.new (L.told link.old)
-        (L.told link.new) lost.old lost.new result }
+    ensures done { AreDone engine.now (advances (length engine.now.locks) tick) pass.old pass.new (L.observed link.old)
+        (L.observed link.new) lost.old lost.new result }
 {
     for shard in 0..engine.shards() {
         if let Err(end) = advance(rt, engine, pass, link, shard, tick, outs, lost) {
@@ -117,8 +117,8 @@ fn on_tick<W: Timers, L: Link, R: Wait>(
     ensures of { IsOf engine.now pass.new.1 }
     ensures there { AllThere pass.new.1 }
     ensures room { outs.new.room ≡ outs.old.room }
-    ensures done { AreDone engine.now (tick_acts engine.now orders.now tick) pass.old pass.new (L.told link.old)
-        (L.told link.new) lost.old lost.new result }
+    ensures done { AreDone engine.now (tick_acts engine.now orders.now tick) pass.old pass.new (L.observed link.old)
+        (L.observed link.new) lost.old lost.new result }
 {
     if let Err(end) = give_all(rt, engine, pass, link, &orders[..due_orders], outs, lost) {
         return Err(end);
@@ -141,8 +141,8 @@ fn finish<W: Timers, L: Link, R: Wait>(
     requires room { 5 ≤ outs.old.room }
     ensures of { IsOf engine.now pass.new.1 }
     ensures there { AllThere pass.new.1 }
-    ensures finished { IsFinished engine.now (orders_acts engine.now orders.now) pass.old pass.new (L.told link.old)
-        (L.told link.new) lost.old lost.new result }
+    ensures finished { IsFinished engine.now (orders_acts engine.now orders.now) pass.old pass.new (L.observed link.old)
+        (L.observed link.new) lost.old lost.new result }
 {
     match give_all(rt, engine, pass, link, orders, outs, lost) {
         Ok(()) => End::Ended,
@@ -189,11 +189,11 @@ pub fn timer<W: Timers, L: Link, T: Ticker, R: Wait>(
 ) -> (End, u64)
     requires of { IsOf engine.now pass.old.1 }
     requires there { AllThere pass.old.1 }
-    requires open { (T.told ticker.old).over ≡ false }
+    requires open { (T.observed ticker.old).over ≡ false }
     ensures of { IsOf engine.now pass.new.1 }
     ensures there { AllThere pass.new.1 }
-    ensures timed { HasTimed engine.now pass.old pass.new (L.told link.old) (L.told link.new) (T.told ticker.old)
-        (T.told ticker.new) orders.now ticks result.0 result.1 }
+    ensures timed { HasTimed engine.now pass.old pass.new (L.observed link.old) (L.observed link.new) (T.observed ticker.old)
+        (T.observed ticker.new) orders.now ticks result.0 result.1 }
 {
     let mut lost = 0;
     if is_idle(orders, ticks) {

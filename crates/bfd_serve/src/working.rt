@@ -30,10 +30,10 @@ pub fn worker<W: Timers, L: Link, G: Gate, R: Wait>(
 ) -> (End, u64)
     requires of { IsOf engine.now pass.old.1 }
     requires there { AllThere pass.old.1 }
-    requires open { (L.told link.old).counts.over ≡ false }
+    requires open { (L.observed link.old).counts.over ≡ false }
     ensures of { IsOf engine.now pass.new.1 }
     ensures there { AllThere pass.new.1 }
-    ensures worked { HasWorked engine.now pass.old pass.new (L.told link.old) (L.told link.new)
+    ensures worked { HasWorked engine.now pass.old pass.new (L.observed link.old) (L.observed link.new)
         turns result.0 result.1 }
 {
     let caller = pass.caller();

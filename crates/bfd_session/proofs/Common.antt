@@ -40,7 +40,7 @@ pub use Rattle.bfd_packet.specs.declared.discard.Test.TheVariants.{AuthDigest, A
 pub use Rattle.bfd_packet.specs.declared.discard.Test.TheVariants.{AuthUnexpected, DetectMult, LengthMin, LengthOver, Multipoint, MyDiscr}
 pub use Rattle.bfd_packet.specs.declared.discard.Test.TheVariants.{Short, Ttl, Version}
 pub use Rattle.bfd_packet.specs.declared.keys.SeqState.{SeqState}
-pub use Rattle.bfd_rules.specs.EventFrame.{Course, based, begins, course, draws, enters, is_untold}
+pub use Rattle.bfd_rules.specs.EventFrame.{Course, based, begins, course, draws, enters, is_unannounced}
 unfoldable pub use Rattle.bfd_rules.specs.EventFrame.{changes, drawn, redrawn, sends}
 pub use Rattle.bfd_rules.specs.Quantities.{deadline, demand_here, is_admin_down, is_idle, is_up, may_send, seq_deadline, tx_interval}
 pub use Rattle.bfd_rules.specs.Renewal.{poll_again}

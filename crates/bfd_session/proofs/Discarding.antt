@@ -119,14 +119,14 @@ discards_first rows c v arrival =
 -- the verdict of a point-to-point session
 
 -- the test on AdminDown comes last
-told_by : (admin : Bool) → test_of (if admin then Dropped AdminDown else Accepted) ≡ cond admin (Some AdminDown) None
-told_by true = refl
-told_by false = refl
+announced_by : (admin : Bool) → test_of (if admin then Dropped AdminDown else Accepted) ≡ cond admin (Some AdminDown) None
+announced_by true = refl
+announced_by false = refl
 
-told_unless : (state : State) (o : Option Test) (seq : SeqState)
+announced_unless : (state : State) (o : Option Test) (seq : SeqState)
     → test_of (verdict_by state (unless o seq)) ≡ option_or o (cond (is_admin_down state) (Some AdminDown) None)
-told_unless state None seq = told_by (is_admin_down state)
-told_unless state (Some test) seq = refl
+announced_unless state None seq = announced_by (is_admin_down state)
+announced_unless state (Some test) seq = refl
 
 -- the tests of the authentication section, with the one on AdminDown after them
 section_first : (keys : Option KeyChain) (state : State) (seq : SeqState) (raw : List ℕ)
@@ -134,14 +134,15 @@ section_first : (keys : Option KeyChain) (state : State) (seq : SeqState) (raw :
     ≡ option_or (find (unauthentic keys seq (take (fields_of raw).length raw)) section_tests)
     (cond (is_admin_down state) (Some AdminDown) None)
 unfolding verdict
-section_first None state seq raw = told_by (is_admin_down state)
-section_first (Some keys) state seq raw = told_unless state (find (section_fails keys seq (take (fields_of raw).length raw)) section_tests)
+section_first None state seq raw = announced_by (is_admin_down state)
+section_first (Some keys) state seq raw = announced_unless state
+    (find (section_fails keys seq (take (fields_of raw).length raw)) section_tests)
     _
 
-told_judged : (state : State) (o : Option Test) (verified : Result SeqState Test)
+announced_judged : (state : State) (o : Option Test) (verified : Result SeqState Test)
     → test_of (verdict_by state (judged_by o verified)) ≡ option_or o (test_of (verdict_by state verified))
-told_judged state None verified = refl
-told_judged state (Some test) verified = refl
+announced_judged state None verified = refl
+announced_judged state (Some test) verified = refl
 
 -- no packet fails one of the tests on the configuration for its authentication section
 pair_same : (c : Config) (v : Vars) (ttl : ℕ) (raw : List ℕ) (test : Test) → is_first test ≡ true
@@ -161,7 +162,7 @@ pair_first c v arrival =
     find-append fails session_tests (section_tests ++ AdminDown ∷ []) ∙ ap (λ o. option_or o (find fails (section_tests ++ AdminDown ∷ [])))
     (find_same _ (pair_same c v arrival.ttl raw) session_tests refl)
     ∙ ap (λ o. option_or first o) (find-append fails section_tests (AdminDown ∷ []))
-    ∙ sym (told_judged v.state first (authenticated c.keys v.seq (fields_of raw) raw)
+    ∙ sym (announced_judged v.state first (authenticated c.keys v.seq (fields_of raw) raw)
     ∙ ap (λ o. option_or first o) (section_first c.keys v.state v.seq raw))
 
 -- the verdict of a session without authentication

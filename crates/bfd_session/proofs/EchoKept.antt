@@ -1,6 +1,6 @@
 -- The end of a point-to-point session's event leaves what its Echo function runs by.
 use Rattle.bfd_session.proofs.Common.{◌≡◌, ℕ, Bool, true, false, refl, Option, None, Some, if◌then◌else◌, next_j, Config, Mark, Vars}
-use Rattle.bfd_session.proofs.Common.{may_send, tx_interval, Course, sends, is_untold, based, draws, drawn, redrawn, transmits, Echo}
+use Rattle.bfd_session.proofs.Common.{may_send, tx_interval, Course, sends, is_unannounced, based, draws, drawn, redrawn, transmits, Echo}
 use Rattle.bfd_session.proofs.Common.{echo_due, IsEchoOver, pick}
 use Rattle.bfd_p2p.specs.Finish.{extra, finish}
 
@@ -30,9 +30,9 @@ due_kept c echo h = rw (h.state, h.echo_every, h.remote_min_echo, h.mult) refl
 
 extra_kept : (c : Config) (eff : ℕ) (s : Course) → IsEchoKept s.vars (extra c eff s).vars
 unfolding extra transmits sends
-extra_kept c eff s = by (is_untold c.active s.mark s.vars)
+extra_kept c eff s = by (is_unannounced c.active s.mark s.vars)
   where
-    by : (told : Bool) → IsEchoKept s.vars (if told then based eff (transmits c false false s) else s).vars
+    by : (announced : Bool) → IsEchoKept s.vars (if announced then based eff (transmits c false false s) else s).vars
     by true = record { state = refl; echo_every = refl; remote_min_echo = refl; mult = refl }
     by false = kept_itself s.vars
 

@@ -2,7 +2,7 @@
 use Rattle.bfd_session.proofs.Common.{◌≡◌, ◌+◌, ◌-◌, ◌==◌, ◌||◌, ◌&&◌, ℕ, Bool, true, false, refl, ◌∙◌, Option, None, Some, is_none, IsSome}
 use Rattle.bfd_session.proofs.Common.{[], arith, if◌then◌else◌, common_steps, Down, Up, floor_tick, has_come, Config, Vars, deadline}
 use Rattle.bfd_session.proofs.Common.{seq_deadline, is_up, demand_here, may_send, poll_again, poll_renewed, used_renewed, demand_renewed}
-use Rattle.bfd_session.proofs.Common.{renewed, Course, enters, changes, sends, is_untold, redrawn, renews, moves, transmits, failed}
+use Rattle.bfd_session.proofs.Common.{renewed, Course, enters, changes, sends, is_unannounced, redrawn, renews, moves, transmits, failed}
 use Rattle.bfd_session.proofs.Common.{HeadConfig, Echo, EchoResult, Failed, SessionConfig, Pair, Running, Flow, detects, detects_by}
 use Rattle.bfd_session.proofs.Common.{settled_by, settled_running, settles_echo, echoing, sound_by, tick, tick_next, ticked_flow, begun}
 use Rattle.bfd_session.proofs.Common.{Initiator, Head, Tail, option_map, IsSound}
@@ -105,7 +105,7 @@ settle_none c limit eff s = periodic_none c limit eff _ ∙ sequence_none limit 
 
 extra_none : (c : Config) (eff : ℕ) (s : Course) → is_none (finishing.extra c eff s).vars.heard ≡ is_none s.vars.heard
 unfolding finishing.extra transmits sends
-extra_none c eff s = either (is_untold c.active s.mark s.vars) _ s refl refl
+extra_none c eff s = either (is_unannounced c.active s.mark s.vars) _ s refl refl
 
 finish_none : (c : Config) (eff : ℕ) (s : Course) → is_none (finishing.finish c eff s).vars.heard ≡ is_none s.vars.heard
 unfolding finishing.finish redrawn
@@ -151,7 +151,7 @@ head_settle_heard c limit eff s = alike (has_come (floor_tick limit) s.vars.tx_d
 
 head_extra_heard : (c : HeadConfig) (eff : ℕ) (s : Course) → (head_finish.extra c eff s).vars.heard ≡ s.vars.heard
 unfolding head_finish.extra head_transmits sends
-head_extra_heard c eff s = alike (is_untold true s.mark s.vars) _ s s.vars.heard refl refl
+head_extra_heard c eff s = alike (is_unannounced true s.mark s.vars) _ s s.vars.heard refl refl
 
 head_finish_heard : (c : HeadConfig) (eff : ℕ) (s : Course) → (head_finish.finish c eff s).vars.heard ≡ s.vars.heard
 unfolding head_finish.finish redrawn

@@ -2,7 +2,8 @@
 -- of a session of another kind than a point-to-point one leaves the Echo function.
 use Rattle.bfd_session.proofs.Common.{◌≡◌, ◌++◌, ◌&&◌, ℕ, Bool, true, false, List, [], refl, ap, append-nil, Option, None, Some, is_some}
 use Rattle.bfd_session.proofs.Common.{Result, Ok, Err, Control, Test, SeqState, Cmd, Config, Vars, floor_tick, has_come, may_send, deadline}
-use Rattle.bfd_session.proofs.Common.{seq_deadline, is_admin_down, Course, is_untold, based, redrawn, renews, moves, transmits, refusal}
+use Rattle.bfd_session.proofs.Common.{seq_deadline, is_admin_down, Course, is_unannounced, based, redrawn, renews, moves, transmits}
+use Rattle.bfd_session.proofs.Common.{refusal}
 use Rattle.bfd_session.proofs.Common.{commanded, done, Echo, EchoResult, Nothing, Sent, Failed, SessionConfig, Pair, Event, Packet}
 use Rattle.bfd_session.proofs.Common.{Returned, Command, Show, Running, Flow, along, settled_by, settled_running, settles_echo, echoing}
 use Rattle.bfd_session.proofs.Common.{step, tick, acted, finished, begun, step_from, stepped_flow, emits, answer_of, reply, reply_from}
@@ -122,7 +123,7 @@ extra_packet-after c eff os s = rw transmits-after refl
 
 extra-after : (c : Config) (eff : ℕ) (os : List Out) (s : Course) → finishing.extra c eff (after os s) ≡ after os (finishing.extra c eff s)
 unfolding finishing.extra
-extra-after c eff os s = either os (is_untold c.active s.mark s.vars) _ s _ _ (extra_packet-after c eff os s) refl
+extra-after c eff os s = either os (is_unannounced c.active s.mark s.vars) _ s _ _ (extra_packet-after c eff os s) refl
 
 finish-after : (c : Config) (eff : ℕ) (os : List Out) (s : Course)
     → finishing.finish c eff (after os s) ≡ after os (finishing.finish c eff s)

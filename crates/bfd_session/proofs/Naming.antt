@@ -1,7 +1,8 @@
 -- Each output of an event names the event's session.
 use Rattle.bfd_session.proofs.Common.{◌≡◌, ◌&&◌, ℕ, Bool, true, false, List, [], Option, None, Some, is_some, Result, Ok, Err}
 use Rattle.bfd_session.proofs.Common.{if◌then◌else◌, AllByRecursion, Control, Test, SeqState, floor_tick, has_come, Cmd, Config, Vars}
-use Rattle.bfd_session.proofs.Common.{may_send, deadline, seq_deadline, is_admin_down, Course, changes, sends, is_untold, redrawn, renews}
+use Rattle.bfd_session.proofs.Common.{may_send, deadline, seq_deadline, is_admin_down, Course, changes, sends, is_unannounced, redrawn}
+use Rattle.bfd_session.proofs.Common.{renews}
 use Rattle.bfd_session.proofs.Common.{moves, transmits, refusal, commanded, Echo, EchoResult, Nothing, Failed, SessionConfig, Pair, Event}
 use Rattle.bfd_session.proofs.Common.{Packet, Returned, Command, Show, Running, Flow, discr_of, settled_by, settled_running, settles_echo}
 use Rattle.bfd_session.proofs.Common.{echoing, step, tick, acted, finished, begun, stepped_flow, ticked_flow, emits, tick_emits, Initiator}
@@ -113,7 +114,7 @@ commanded-names c eff cmd {s} h = either (is_some (refusal c s.vars cmd)) h (mov
 extra-names : (c : Config) (eff : ℕ) {s : Course} → Names c.discr s → Names c.discr (finishing.extra c eff s)
 unfolding finishing.extra
 extra-names c eff {s} h =
-    either (is_untold c.active s.mark s.vars) record { all = (transmits-names c false false h).all } h
+    either (is_unannounced c.active s.mark s.vars) record { all = (transmits-names c false false h).all } h
 
 finish-names : (c : Config) (eff : ℕ) {s : Course} → Names c.discr s → Names c.discr (finishing.finish c eff s)
 unfolding finishing.finish redrawn

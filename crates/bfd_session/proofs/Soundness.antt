@@ -3,7 +3,8 @@ use Rattle.bfd_session.proofs.Common.{◌≡◌, ◌^◌, ◌<◌, ◌&&◌, ◌
 use Rattle.bfd_session.proofs.Common.{arith, rules, if◌then◌else◌, common_steps, State, Down, Up, SeqState, moment_bound, floor_tick}
 use Rattle.bfd_session.proofs.Common.{next_j, has_come, Config, Mark, Vars, deadline, seq_deadline, demand_here, may_send, tx_interval}
 use Rattle.bfd_session.proofs.Common.{is_idle, poll_again, poll_renewed, used_renewed, demand_renewed, renewed, Course, enters, changes}
-use Rattle.bfd_session.proofs.Common.{sends, draws, drawn, is_untold, based, redrawn, IsPlain, IsRenewed, HasPeerMult, IsSteady, renews}
+use Rattle.bfd_session.proofs.Common.{sends, draws, drawn, is_unannounced, based, redrawn, IsPlain, IsRenewed, HasPeerMult, IsSteady}
+use Rattle.bfd_session.proofs.Common.{renews}
 use Rattle.bfd_session.proofs.Common.{moves, transmits, failed, Echo, EchoResult, Nothing, Sent, Failed, HasMoments, outcome, SessionConfig}
 use Rattle.bfd_session.proofs.Common.{Pair, Running, Flow, left_by, should_echo, echoing, interval_of, settled_by, settled_running}
 use Rattle.bfd_session.proofs.Common.{settles_echo, goes_on, tick, tick_next, ticked_flow, begun, Initiator, Head, Tail, option_map, pick}
@@ -145,18 +146,18 @@ sequence_steady limit {eff} s h steady = choice_steady (has_come limit (seq_dead
 
 -- what a packet makes of the variables besides the sequence state
 
-told_plain : {c : Config} {eff : ℕ} (seq : SeqState) {v : Vars} → eff < moment_bound → IsPlain c v
+announced_plain : {c : Config} {eff : ℕ} (seq : SeqState) {v : Vars} → eff < moment_bound → IsPlain c v
     → IsPlain c (record v { seq = seq; poll = settling.poll_sent eff v.poll; base = eff })
-told_plain seq h plain = grind (arith, common_steps)
+announced_plain seq h plain = grind (arith, common_steps)
 
-told_peer : (eff : ℕ) (seq : SeqState) {v : Vars} → HasPeerMult v
+announced_peer : (eff : ℕ) (seq : SeqState) {v : Vars} → HasPeerMult v
     → HasPeerMult (record v { seq = seq; poll = settling.poll_sent eff v.poll; base = eff })
-told_peer eff seq h = grind (arith, common_steps)
+announced_peer eff seq h = grind (arith, common_steps)
 
 periodic_packet_steady : {c : Config} {eff : ℕ} (s : Course) → eff < moment_bound → IsSteady c s.vars
     → IsSteady c (settling.periodic_packet c eff s).vars
 unfolding settling.periodic_packet renews transmits sends
-periodic_packet_steady {eff} s h steady = renewed_steady s.vars h (told_plain _ h steady.plain) (told_peer eff _ steady.peer)
+periodic_packet_steady {eff} s h steady = renewed_steady s.vars h (announced_plain _ h steady.plain) (announced_peer eff _ steady.peer)
 
 periodic_steady : {c : Config} (limit : ℕ) {eff : ℕ} (s : Course) → eff < moment_bound → IsSteady c s.vars
     → IsSteady c (settling.periodic c limit eff s).vars
@@ -179,7 +180,7 @@ based_steady seq h steady = grind (arith, common_steps)
 
 extra_steady : {c : Config} {eff : ℕ} (s : Course) → eff < moment_bound → IsSteady c s.vars → IsSteady c (finishing.extra c eff s).vars
 unfolding finishing.extra transmits sends
-extra_steady {c} {eff} s h steady = choice_steady (is_untold c.active s.mark s.vars) (based eff (transmits c false false s)) s
+extra_steady {c} {eff} s h steady = choice_steady (is_unannounced c.active s.mark s.vars) (based eff (transmits c false false s)) s
     (based_steady _ h steady) steady
 
 interval_few : {c : Config} {v : Vars} → IsSteady c v → tx_interval v < 2 ^ 32

@@ -3,7 +3,7 @@ ghost use Rattle.std.specs.Prelude.{◌≡◌, ◌<◌, ◌≤◌, ◌+◌, ◌*
 ghost use Rattle.bfd_num.specs.Numbers.{moment_bound};
 ghost use Rattle.bfd_num.specs.Due.{has_come};
 ghost use Rattle.bfd_rules.specs.declared.outputs.Out.{Out};
-ghost use Rattle.bfd_rules.specs.EventFrame.{course, begins, tells};
+ghost use Rattle.bfd_rules.specs.EventFrame.{course, begins, announces};
 ghost use Rattle.bfd_rules.specs.Sound.{IsSound as IsVarsSound};
 ghost use Rattle.bfd_p2p.specs.Over.{IsBegun, IsOver, IsSettled};
 ghost use Rattle.bfd_echo.specs.Rules.{HasMoments};
@@ -228,7 +228,7 @@ fn beats(p: &mut P2p, echo: &Option<Echo>, limit: u64, eff: u64, outs: &mut Outs
     ensures rests_outs { result ≡ false → outs.new ≡ outs.old }
     ensures flow { result ≡ true → (next : ℕ) → session.tick (Pair p.old.config) limit eff
         (session.begun None (pair_of p.old echo.now next) outs.old.items)
-        ≡ flow (course p.new.vars (tells p.old.vars (begins p.old.vars)) outs.new.items) echo.now next }
+        ≡ flow (course p.new.vars (announces p.old.vars (begins p.old.vars)) outs.new.items) echo.now next }
     ensures over { result ≡ true → limit ≤ eff → IsOver limit p.new.vars }
     ensures echo_over { result ≡ true → IsEchoOver limit p.new.config p.new.vars echo.now }
     ensures sound { result ≡ true → (next : ℕ) → IsPairSound p.new.config (pair_of p.new echo.now next) }

@@ -152,16 +152,16 @@ pub shard_more : {last limit room : ℕ} (room2 : ℕ) (entry : Entry) {ss ss2 :
 shard_more {last} room2 entry {ss} {ss2} {j} s below early can m sound timely =
     let es : List ShardEvent = events_of j in
     let e : ShardEvent = entry.event in
-    let told = map-append (λ x. x.event) j (entry ∷ []) in
+    let reported = map-append (λ x. x.event) j (entry ∷ []) in
     let cs : List SessionConfig = configs_of ss in
     let configs : configs_of ss2 ≡ cs = cc (moved_configs last e ss) in
     record {
       few = omega (arith, s.few, ap length m, moved_long last e ss);
       full = omega (arith, length-append j (entry ∷ []));
-      history = rw told (rw configs (history_more cs es e s.history can));
+      history = rw reported (rw configs (history_more cs es e s.history can));
       clock = cc (last_more 0 es e);
       early = early;
       whole = cc (runs_more es e cs);
       sound = sound;
-      timely = rw told (rw configs timely);
+      timely = rw reported (rw configs timely);
     }

@@ -97,14 +97,14 @@ module _ (idles : Idles) (d : Running) (last : ℕ) where
   all_ticked n pre [] dpre outs e f sound = cc (append-nil outs)
   all_ticked n pre (s ∷ ss) dpre outs e f sound =
       let t : Running = ticked last s in
-      let told : List Out = outs ++ tick_items last s in
+      let reported : List Out = outs ++ tick_items last s in
       cc (
         passes (has_come last (due s)) (places (has_come last) (n + 1) (map due ss)) pre ss dpre (map (without last) (map due ss)) outs s e
             f sound.0 refl,
-        regrouped pre ss dpre (map (without last) (map due ss)) t (due t) told,
-        all_ticked (n + 1) (pre ++ t ∷ []) ss (dpre ++ due t ∷ []) told
+        regrouped pre ss dpre (map (without last) (map due ss)) t (due t) reported,
+        all_ticked (n + 1) (pre ++ t ∷ []) ss (dpre ++ due t ∷ []) reported
             (omega (arith, length-append pre (t ∷ []))) (omega (arith, length-append dpre (due t ∷ []))) sound.1,
-        regrouped pre (map (ticked last) ss) dpre (map due (map (ticked last) ss)) t (due t) (told ++ flat_map (tick_items last) ss),
+        regrouped pre (map (ticked last) ss) dpre (map due (map (ticked last) ss)) t (due t) (reported ++ flat_map (tick_items last) ss),
         append_assoc outs (tick_items last s) (flat_map (tick_items last) ss),
       )
 
@@ -202,7 +202,7 @@ pub visits_more : (d : Running) (last : ℕ) (ks : List ℕ) (i k : ℕ) (ss ss2
     → outs2 ≡ outs ++ tick_items last (get_or ss k d)
     → visits d last (drop (i + 1) ks) (tour ss2 ds2 outs2) ≡ visits d last (drop i ks) (tour ss ds outs)
 unfolding visits visit
-visits_more d last ks i k ss ss2 ds ds2 outs outs2 more at moved kept told =
+visits_more d last ks i k ss ss2 ds ds2 outs outs2 more at moved kept reported =
     let rest : drop i ks ≡ k ∷ drop (i + 1) ks =
     cc (drop-cons ks i 0 more, add-one i, sym at) in
     let s : Running = get_or ss k d in

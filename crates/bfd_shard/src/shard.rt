@@ -173,7 +173,7 @@ impl<W: Timers> ShardState<W> {
             × (length self.old.journal ≡ self.old.limit)) }
         ensures below { OnOk result (length self.old.journal < self.old.limit) }
         ensures same { OnErr result (self.new ≡ self.old) }
-        ensures untold { OnErr result (outs.new ≡ outs.old) }
+        ensures unreported { OnErr result (outs.new ≡ outs.old) }
         ensures journal { OnOk result (self.new.journal
             ≡ self.old.journal ++ record { caller = caller; event = event } ∷ []) }
         ensures limit { self.new.limit ≡ self.old.limit }

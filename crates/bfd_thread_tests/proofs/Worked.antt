@@ -47,7 +47,7 @@ grown_turn k l shard between new t = record {
 
 grown_by : (engine : Shards) (act : Act) (k l : Knows) (outs outs2 : List Out) (result : Result Answer EngineFault)
     → IsDone act engine k l outs outs2 result → HasGrown k l
-grown_by engine (Rests told answer) k l outs outs2 result d = subst (HasGrown k) (sym d.1) (grown_same k)
+grown_by engine (Rests reported answer) k l outs outs2 result d = subst (HasGrown k) (sym d.1) (grown_same k)
 grown_by engine (Turns shard event) k l outs outs2 (Ok answer) d = grown_turn k l _ _ _ d.turned
 grown_by engine (Turns shard event) k l outs outs2 (Err fault) d = grown_turn k l _ _ [] d.turned
 

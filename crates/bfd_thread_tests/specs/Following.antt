@@ -8,9 +8,9 @@ use Rattle.bfd_watch.specs.Watching.{Watching}
 
 -- these are the changes of the entries that the watch has received: each once and in order
 abbrev pub AreItsChanges : Watching → List Change → Type 0
-AreItsChanges watch told = told ≡ history_changes watch.configs (events_of watch.entries)
+AreItsChanges watch reported = reported ≡ history_changes watch.configs (events_of watch.entries)
 
 -- a client whose watch has received these entries, and which has received their changes
-pub record IsClientTold (seen : List Entry) (watch : Watching) (told : List Change) : Type 0 where
+pub record IsClientReported (seen : List Entry) (watch : Watching) (reported : List Change) : Type 0 where
   pub taken : watch.entries ≡ seen
-  pub changes_are : AreItsChanges watch told
+  pub changes_are : AreItsChanges watch reported

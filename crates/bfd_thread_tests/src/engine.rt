@@ -110,7 +110,7 @@ pub(crate) fn part(engine: &Plain, alloc: Global, first: &mut EnginePass) -> Opt
 }
 
 /// What others are answered: one of shard 1, a second of shard 0 while a caller has its turn, and the second again after that.
-fn are_told(
+fn are_reported(
     beside: Result<(), HoldFault>,
     same: Result<(), HoldFault>,
     after: Result<(), HoldFault>,
@@ -119,7 +119,7 @@ fn are_told(
 }
 
 /// Whether others are answered so of shards 1 and 0 while a caller has the turn of shard 0, and of shard 0 after that.
-fn told_beside(
+fn reported_beside(
     engine: &Plain,
     first: &mut EnginePass,
     other: &mut EnginePass,
@@ -138,7 +138,7 @@ fn told_beside(
         return None;
     }
     let after = tries(engine, third, 0);
-    Some(are_told(beside, same, after))
+    Some(are_reported(beside, same, after))
 }
 
 /// The same of a new engine.
@@ -146,7 +146,7 @@ fn holds(alloc: Global) -> Option<bool> {
     let (engine, mut first) = opened(alloc, 100_000)?;
     let mut other = part(&engine, alloc, &mut first)?;
     let mut third = part(&engine, alloc, &mut first)?;
-    told_beside(&engine, &mut first, &mut other, &mut third)
+    reported_beside(&engine, &mut first, &mut other, &mut third)
 }
 
 #[test]
@@ -220,8 +220,8 @@ fn asks<R: Wait, L: Ledger>(
 
 /// What calls of an engine with one place in each journal result in: a question fills it, and whatever is for its session after that is
 /// Full; a question and a command for nobody are refused.
-fn are_full(told: [Result<Answer, EngineFault>; 5]) -> bool {
-    let [shown, again, command, stray, reset] = told;
+fn are_full(reported: [Result<Answer, EngineFault>; 5]) -> bool {
+    let [shown, again, command, stray, reset] = reported;
     let full = Err(EngineFault::Full(0, 1));
     let unknown = Ok(Answer::Refused(Refusal::UnknownSession));
     shown.is_ok() && again == full && command == full && stray == unknown && reset == unknown
@@ -244,7 +244,7 @@ fn asks_on<R: Wait, L: Ledger>(
 {
     let mut steps = Steps::<L>::new(blank);
     let reset = Some(Cmd::Reset);
-    let told = [
+    let reported = [
         asks(rt, engine, pass, (moment, 1, None), outs, &mut steps),
         asks(rt, engine, pass, (moment, 1, None), outs, &mut steps),
         asks(rt, engine, pass, (moment, 1, reset), outs, &mut steps),
@@ -253,7 +253,7 @@ fn asks_on<R: Wait, L: Ledger>(
     ];
     outs.clear();
     let dropped = engine.receive(rt, pass, moment, stray, outs, &mut steps);
-    are_full(told) && dropped == Ok(Answer::Dropped(Test::YourUnknown))
+    are_full(reported) && dropped == Ok(Answer::Dropped(Test::YourUnknown))
 }
 
 /// The same of a new engine.

@@ -31,7 +31,7 @@ module _ {N B : Type 0} (by : N → ℕ) where
       → (v.number ≡ 0 → (made' ≡ made) × (joined' ≡ joined)) → Fits by h' lb now' made' joined' seat' i v
   fits_moved {h} {v} {h'} now' made' joined' seat' f more same later stays kept = record {
     seen = begins_through v.seen h h' f.seen more;
-    told = begins_through v.told h h' f.told more;
+    reported = begins_through v.reported h h' f.reported more;
     calls_seen = cc;
     calls_own = cc;
     base = f.base;

@@ -36,7 +36,7 @@ module _ {V N B : Type 0} (notes : V → List N) (by : N → ℕ) (base : V → 
         subst (λ (p : ℕ × View N B). Fits by [] (base x) (2 * turns) [] [] (put (λ _. None) 0 (Some 0)) p.0 p.1) (λ z. (sym t.0 z, t.1 z))
         record {
           seen = ([], refl);
-          told = ([], refl);
+          reported = ([], refl);
           calls_seen = refl;
           calls_own = refl;
           base = refl;
@@ -68,7 +68,7 @@ module _ {V N B : Type 0} (notes : V → List N) (by : N → ℕ) (base : V → 
   shows {s} k {v} f = let is = word_is s k in let reached = f.word in let room = k.room in record {
     reached = omega arith;
     room = omega arith;
-    begins = λ le. begins_begins v.told v.seen _ f.told f.seen le;
+    begins = λ le. begins_begins v.reported v.seen _ f.reported f.seen le;
     own = cc;
   }
 
@@ -87,7 +87,7 @@ module _ {V N B : Type 0} (notes : V → List N) (by : N → ℕ) (base : V → 
       (quiet_from s.views i v (at_word word looks v) at (idle_holds_not _ idle)) place)
       record {
         seen = f.seen;
-        told = f.told;
+        reported = f.reported;
         calls_seen = f.calls_seen;
         calls_own = f.calls_own;
         base = f.base;

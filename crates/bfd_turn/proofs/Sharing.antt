@@ -47,7 +47,7 @@ module _ {V N B : Type 0} (notes : V → List N) (by : N → ℕ) (base : V → 
             (λ (q : (j ≡ id) × (l ≡ u)). subst (λ (y : ℕ × View N B). Fits by k.history k.lock_base k.now made k.joined seat y.0 y.1)
             (λ z. (sym q.0 z, q.1 z)) record {
               seen = f.seen;
-              told = f.told;
+              reported = f.reported;
               calls_seen = f.calls_seen;
               calls_own = f.calls_own;
               base = f.base;
@@ -62,7 +62,7 @@ module _ {V N B : Type 0} (notes : V → List N) (by : N → ℕ) (base : V → 
             (λ (t : (j ≡ length ls) × (r ≡ u)). subst (λ (y : ℕ × View N B). Fits by k.history k.lock_base k.now made k.joined seat y.0 y.1)
             (λ z. (sym t.0 z, t.1 z)) record {
               seen = f.seen;
-              told = (k.history, refl);
+              reported = (k.history, refl);
               calls_seen = unmade.1 ∙ sym (calls_front by n v.seen f.seen unmade.1);
               calls_own = unmade.1;
               base = f.base;
@@ -138,7 +138,7 @@ module _ {V N B : Type 0} (notes : V → List N) (by : N → ℕ) (base : V → 
             (λ (q : (j ≡ id) × (b ≡ u)). subst (λ (y : ℕ × View N B). Fits by k.history k.lock_base k.now k.made joined seat y.0 y.1)
             (λ z. (sym q.0 z, q.1 z)) record {
               seen = lb;
-              told = shorter_begins v.seen w.seen _ f.seen g.seen;
+              reported = shorter_begins v.seen w.seen _ f.seen g.seen;
               calls_seen = calls_between by v.number v.seen _ _ (begins_begins v.seen (longer v.seen w.seen) _ f.seen lb lens.0) lb
                   f.calls_seen;
               calls_own = f.calls_seen;

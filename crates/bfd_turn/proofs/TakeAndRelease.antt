@@ -48,7 +48,7 @@ module _ {V N B : Type 0} (notes : V → List N) (by : N → ℕ) (base : V → 
       (ap (λ ws. set ws 0 (read + 1)) k.words) (omega arith) (omega arith) (inr out)
       record {
         seen = ([], sym seen_all ∙ sym (append-nil (notes x)));
-        told = f.told;
+        reported = f.reported;
         calls_seen = ap (calls by v.number) (sym seen_all);
         calls_own = f.calls_own;
         base = f.base;
@@ -149,7 +149,7 @@ module _ {V N B : Type 0} (notes : V → List N) (by : N → ℕ) (base : V → 
             (λ (t : (j ≡ id) × (w ≡ u)). subst (λ (y : ℕ × View N B). Fits by (notes x) k.lock_base word k.made k.joined k.seat y.0 y.1)
             (λ z. (sym t.0 z, t.1 z)) record {
               seen = begins_itself (notes x);
-              told = begins_through v.told _ _ f.told more;
+              reported = begins_through v.reported _ _ f.reported more;
               calls_seen = refl;
               calls_own = refl;
               base = f.base;

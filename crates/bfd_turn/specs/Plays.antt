@@ -22,7 +22,7 @@ module _ {N B : Type 0} where
   pub record Shows (by : N → ℕ) (v : View N B) (n : ℕ) : Type 0 where
     pub reached : v.word ≤ n
     pub room : n + 1 < 2 ^ 64
-    pub begins : length v.told ≤ length v.seen → Begins v.told v.seen
+    pub begins : length v.reported ≤ length v.seen → Begins v.reported v.seen
     pub own : calls by v.number v.seen ≡ calls by v.number v.own
 
 module _ {V N B : Type 0} where

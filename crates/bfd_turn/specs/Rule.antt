@@ -17,7 +17,7 @@ module _ {N B : Type 0} where
   pub record Fits (by : N → ℕ) (history : List N) (lock_base : B) (now : ℕ) (made : List ℕ) (joined : List (ℕ × List N))
       (seat : ℕ → Option ℕ) (i : ℕ) (v : View N B) : Type 0 where
     pub seen : Begins v.seen history
-    pub told : Begins v.told history
+    pub reported : Begins v.reported history
     pub calls_seen : calls by v.number history ≡ calls by v.number v.seen
     pub calls_own : calls by v.number history ≡ calls by v.number v.own
     pub base : v.base ≡ Some lock_base

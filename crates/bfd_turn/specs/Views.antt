@@ -26,7 +26,7 @@ module _ {N B : Type 0} where
     number = 0;
     base = None;
     seen = [];
-    told = [];
+    reported = [];
     own = [];
     word = 0;
     looks = [];
@@ -46,7 +46,7 @@ module _ {N B : Type 0} where
     number = 0;
     base = Some base;
     seen = [];
-    told = [];
+    reported = [];
     own = [];
     word = 2 * turns;
     looks = [];
@@ -66,7 +66,7 @@ module _ {N B : Type 0} where
     number = n;
     base = v.base;
     seen = v.seen;
-    told = [];
+    reported = [];
     own = [];
     word = v.word;
     looks = [];
@@ -82,7 +82,7 @@ module _ {N B : Type 0} where
     number = v.number;
     base = v.base;
     seen = longer v.seen w.seen;
-    told = shorter v.seen w.seen;
+    reported = shorter v.seen w.seen;
     own = v.seen;
     word = max v.word w.word;
     looks = v.looks;

@@ -15,7 +15,7 @@ pub struct View<N, B> {
     pub base: Option<B>,
     pub seen: LinkedList<N>,
     /// The shorter list of the last join, which a load then shows to be a beginning of `seen`.
-    pub told: LinkedList<N>,
+    pub reported: LinkedList<N>,
     /// What it had seen at its own last turn, or before its last join: no call of its own has come since.
     pub own: LinkedList<N>,
     pub word: u64,

@@ -7,7 +7,7 @@ use Rattle.bfd_watch.specs.declared.group.Member.{Member}
 use Rattle.bfd_watch.specs.Changes.{changes_in, changes_from}
 use Rattle.bfd_watch.specs.Groups.{Group, group, heard, member_after, group_after}
 use Rattle.bfd_watch.specs.Watched.{watched_lines, watched_lines_from}
-use Rattle.bfd_watch.proofs.Telling.{from_more}
+use Rattle.bfd_watch.proofs.ChangeLines.{from_more}
 
 -- no change leaves a group as it is
 pub none_heard : (g : Group) → group_after [] g ≡ g

@@ -26,12 +26,12 @@ pub record IsWatch (shard : Shard) (outs : Outputs) (limit : ℕ) : Type 0 where
   pub limits : shard.limit ≡ limit
 
 -- what a refusal says of the watch: it is full, with this number of entries, which is its limit; or it ran out of memory below that
-abbrev pub TellsOfWatch : WatchFault → Watching → Type 0
-TellsOfWatch (Full count) watch = (count ≡ length watch.entries) × (length watch.entries ≡ watch.limit)
-TellsOfWatch Memory watch = length watch.entries < watch.limit
+abbrev pub IsWatchFault : WatchFault → Watching → Type 0
+IsWatchFault (Full count) watch = (count ≡ length watch.entries) × (length watch.entries ≡ watch.limit)
+IsWatchFault Memory watch = length watch.entries < watch.limit
 
 -- the changes that one more entry reports: those of its outputs, of the sessions as the entries before have left them
-abbrev pub told_by : Watching → Entry → List Change
-told_by watch entry =
+abbrev pub reported_by : Watching → Entry → List Change
+reported_by watch entry =
     changes_in (length watch.entries + 1)
     (outcome_of (last_tick (events_of watch.entries)) entry.event (runs (events_of watch.entries) watch.configs)).items

@@ -10,7 +10,7 @@ ghost use Rattle.bfd_watch.specs.Watched.{watched_lines, watched_lines_from, wat
 
 /// Laws of changes, and no work: one more event gives what it does to the sessions that the history left, at its last tick;
 /// its changes come behind the others, with the next number.
-#[tactic(auto, using(crate::proofs::Telling::outcomes_grow, crate::proofs::Telling::changes_more))]
+#[tactic(auto, using(crate::proofs::ChangeLines::outcomes_grow, crate::proofs::ChangeLines::changes_more))]
 pub fn changes_laws()
     ensures outcomes { (configs : List SessionConfig) (events : List ShardEvent) (event : ShardEvent)
         → history_outcomes configs (events ++ event ∷ [])

@@ -98,15 +98,15 @@ impl LinkGroup {
     /// Appends the lines of the event of this number, which has these changes: a line for each change, in order, of members and of other
     /// sessions, and then the group's line where the event as a whole has moved it between up and down. The group is then as after these
     /// changes. Fails only when out of memory; then the group and the text are as before.
-    pub fn tell(
+    pub fn report(
         &mut self,
         number: u64,
         changes: &[Change],
         text: &mut Vec<u8>,
     ) -> Result<(), AllocError>
-        ensures told { OnOk result (text.new.items ≡ text.old.items ++ watched_lines number changes.now self.old) }
+        ensures reported { OnOk result (text.new.items ≡ text.old.items ++ watched_lines number changes.now self.old) }
         ensures after { OnOk result (self.new ≡ group_after changes.now self.old) }
-        ensures untold { OnErr result (text.new.items ≡ text.old.items) }
+        ensures unreported { OnErr result (text.new.items ≡ text.old.items) }
         ensures same { OnErr result (self.new ≡ self.old) }
     {
         let alloc = *text.allocator();
@@ -119,8 +119,8 @@ impl LinkGroup {
 
     /// Appends the last line, with the number of all changes. Fails only when out of memory; then the text is as before.
     pub fn close(&self, changes: u64, text: &mut Vec<u8>) -> Result<(), AllocError>
-        ensures told { OnOk result (text.new.items ≡ text.old.items ++ watched_line changes self.now) }
-        ensures untold { OnErr result (text.new.items ≡ text.old.items) }
+        ensures reported { OnOk result (text.new.items ≡ text.old.items ++ watched_line changes self.now) }
+        ensures unreported { OnErr result (text.new.items ≡ text.old.items) }
     {
         let line = watched_text(*text.allocator(), changes, self)?;
         text.extend_from_slice(line.as_bytes())

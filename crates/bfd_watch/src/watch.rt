@@ -7,7 +7,7 @@ ghost use Rattle.bfd_shard.specs.History.{events_of, later, moved, outcome_of, r
 ghost use Rattle.bfd_shard.specs.Shard.{CanHappen, room_for};
 ghost use Rattle.bfd_watch.specs.declared.change.Change.{Change};
 ghost use Rattle.bfd_watch.specs.Changes.{change_in, history_changes, changes_in};
-ghost use Rattle.bfd_watch.specs.Watching.{TellsOfWatch, told_by, watching};
+ghost use Rattle.bfd_watch.specs.Watching.{IsWatchFault, reported_by, watching};
 ghost use Rattle.bfd_num.specs.Counting.{IsBlankOf};
 
 use crate::change::{Change, WatchFault};
@@ -167,13 +167,13 @@ impl<W: Timers> Watch<W> {
         requires can { CanHappen self.old.configs entry.event }
         ensures taken { OnOk result (self.new ≡ record self.old { entries = self.old.entries ++ entry ∷ [] }) }
         ensures below { OnOk result (length self.old.entries < self.old.limit) }
-        ensures told { OnOk result (out.new.items ≡ out.old.items ++ told_by self.old entry) }
+        ensures reported { OnOk result (out.new.items ≡ out.old.items ++ reported_by self.old entry) }
         ensures whole { OnOk result ((before : List Change)
             → out.old.items ≡ before ++ history_changes self.old.configs (events_of self.old.entries)
             → out.new.items ≡ before ++ history_changes self.new.configs (events_of self.new.entries)) }
-        ensures fault { IfErr result (λ fault. TellsOfWatch fault self.old) }
+        ensures fault { IfErr result (λ fault. IsWatchFault fault self.old) }
         ensures same { OnErr result (self.new ≡ self.old) }
-        ensures untold { OnErr result (out.new.items ≡ out.old.items) }
+        ensures unreported { OnErr result (out.new.items ≡ out.old.items) }
     {
         let taken = self.shard.journal().len();
         if taken == self.limit {

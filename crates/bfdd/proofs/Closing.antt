@@ -47,8 +47,8 @@ pub whole_text : (script : Lists) {engine : Shards} {shards limit need : ℕ} (m
     → (AllSole (length engine.locks) k → text ≡ watched
     (happening_outcomes 0 (happenings engine.configs engine.pool script.events) (map started engine.configs)) g)
     → g ≡ group_in need members (map started script.configs) → AllSole (length engine.locks) k → text ≡ watched_of need members script
-whole_text script {engine} members k {g = g} o told group_is s =
-    told s
+whole_text script {engine} members k {g = g} o reported group_is s =
+    reported s
     ∙ (ap (λ cs. watched (happening_outcomes 0 (happenings cs engine.pool script.events) (map started cs)) g) o.configs_are
     ∙ (ap (λ p. watched (happening_outcomes 0 (happenings script.configs p script.events) (map started script.configs)) g) o.pool_is
     ∙ (ap (λ os. watched os g) (world_is script) ∙ ap (λ x. watched (world script) x) group_is)))
@@ -60,5 +60,5 @@ pub closed_text : {whole script : Lists} {engine : Shards} {n limit times need :
     → (AllSole (length engine.locks) l → text ≡ watched
     (happening_outcomes 0 (happenings engine.configs engine.pool script.events) (map started engine.configs)) g)
     → g ≡ group_in need members (map started script.configs) → text ≡ watched_of need members whole
-closed_text {script = script} {need = need} members {l = l} {text = text} same o new kept closed told group_is =
-    subst (λ s. text ≡ watched_of need members s) same (whole_text script members l o told group_is (all_sole new kept closed))
+closed_text {script = script} {need = need} members {l = l} {text = text} same o new kept closed reported group_is =
+    subst (λ s. text ≡ watched_of need members s) same (whole_text script members l o reported group_is (all_sole new kept closed))

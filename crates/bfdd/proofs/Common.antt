@@ -14,7 +14,7 @@ pub use Rattle.bfdd.specs.declared.words.job.Job.{Job}
 pub use Rattle.bfdd.specs.Status.{IsDecided, IsEndOf, IsWrittenBy, OnBadLine, UnlessWriting, WhereUnopened, WhereUnwritten}
 pub use Rattle.bfd_script.specs.Reading.{Lists, script_of}
 pub use Rattle.bfdd.specs.declared.words.job.Job.TheVariants.{Load, Pair, Replay, Serve, Watch}
-pub use Rattle.bfdd.specs.Tells.{Tells, TellsBytes}
+pub use Rattle.bfdd.specs.Reports.{Reports, ReportsBytes}
 pub use Rattle.std.specs.Io.KnownBytes.{Appends}
 pub use Rattle.bfd_replay.specs.Written.{TookFront}
 pub use Rattle.bfd_replay.proofs.Written.{took_nothing}

@@ -1,14 +1,14 @@
 -- How a job may end.
 use Rattle.bfdd.proofs.Common.{◌≡◌, ◌≢◌, ◌⊎◌, ℕ, true, false, List, Option, Some, inl, inr, refl, sym, subst, Job, Status, Done, Usage}
 use Rattle.bfdd.proofs.Common.{BadLine, ReadFault, WriteFault, TooLarge, Memory, NoMember, Comes, Edges, IsFaulty, IsOverlong, status_of}
-use Rattle.bfdd.proofs.Common.{IsDecided, IsEndOf, WhereUnopened, Wanted, reads, serves, Lists, Replay, Serve, Load, Pair, Watch, Tells}
-use Rattle.bfdd.proofs.Common.{TellsBytes}
+use Rattle.bfdd.proofs.Common.{IsDecided, IsEndOf, WhereUnopened, Wanted, reads, serves, Lists, Replay, Serve, Load, Pair, Watch, Reports}
+use Rattle.bfdd.proofs.Common.{ReportsBytes}
 use Rattle.bfd_serve.specs.declared.run.finish.Finish.{Finish}
 use Rattle.bfd_serve.specs.declared.run.finish.Finish.TheVariants as finish
 use Rattle.bfdd.proofs.Answering.{each_answer}
 
 -- what the bytes alone decide
-bytes_so : {job : Job} {left right : Option (List ℕ)} {w : Wanted} → TellsBytes job left right w → IsEndOf (Some job) w.status
+bytes_so : {job : Job} {left right : Option (List ℕ)} {w : Wanted} → ReportsBytes job left right w → IsEndOf (Some job) w.status
 bytes_so {job} {w} (inl known) = each_answer job (λ v. IsEndOf (Some job) v.status) (λ text. tt) (λ reading bad. reading)
     (λ watching discr. watching)
     known.bytes w known.spelled
@@ -29,12 +29,12 @@ unread_so job reading (inl faulty) = rw faulty.complained reading
 unread_so job reading (inr long) = rw long.nothing reading
 
 -- what a job has to report goes with a status of its own
-pub ends_so : (job : Job) (left right : Option (List ℕ)) (old new : Edges) (w : Wanted) → Tells job left right old new w
+pub ends_so : (job : Job) (left right : Option (List ℕ)) (old new : Edges) (w : Wanted) → Reports job left right old new w
     → IsEndOf (Some job) w.status
-ends_so (Replay hands) left right old new w tells = bytes_so tells
-ends_so (Watch need members shards) left right old new w tells = bytes_so tells
-ends_so (Load sessions ticks seed hands) left right old new w tells = bytes_so tells
-ends_so (Pair events seed) left right old new w tells = bytes_so tells
+ends_so (Replay hands) left right old new w reports = bytes_so reports
+ends_so (Watch need members shards) left right old new w reports = bytes_so reports
+ends_so (Load sessions ticks seed hands) left right old new w reports = bytes_so reports
+ends_so (Pair events seed) left right old new w reports = bytes_so reports
 ends_so (Serve hands turns ticks journal) left right old new w (inl served) =
     comes_so (Serve hands turns ticks journal) served.script old new w refl served.comes
 ends_so (Serve hands turns ticks journal) left right old new w (inr none) = unread_so (Serve hands turns ticks journal) refl none.unread
@@ -67,21 +67,21 @@ all_unopened (BadLine line fault) P fact = fact
 all_unopened (NoMember discr) P fact = fact
 all_unopened status P fact = tt
 
-tells_unopened : (job : Job) (left right : Option (List ℕ)) {old new : Edges} (w : Wanted) → (serves job ≡ false → new ≡ old)
-    → Tells job left right old new w → WhereUnopened w.status (new ≡ old)
-tells_unopened (Serve hands turns ticks journal) left right {old} {new} w idle (inl served) = comes_opened (new ≡ old) served.comes
-tells_unopened (Serve hands turns ticks journal) left right {old} {new} w idle (inr none) = all_unopened w.status (new ≡ old) none.same
-tells_unopened (Replay hands) left right {old} {new} w idle tells = all_unopened w.status (new ≡ old) (idle refl)
-tells_unopened (Watch need members shards) left right {old} {new} w idle tells = all_unopened w.status (new ≡ old) (idle refl)
-tells_unopened (Load sessions ticks seed hands) left right {old} {new} w idle tells = all_unopened w.status (new ≡ old) (idle refl)
-tells_unopened (Pair events seed) left right {old} {new} w idle tells = all_unopened w.status (new ≡ old) (idle refl)
+reports_unopened : (job : Job) (left right : Option (List ℕ)) {old new : Edges} (w : Wanted) → (serves job ≡ false → new ≡ old)
+    → Reports job left right old new w → WhereUnopened w.status (new ≡ old)
+reports_unopened (Serve hands turns ticks journal) left right {old} {new} w idle (inl served) = comes_opened (new ≡ old) served.comes
+reports_unopened (Serve hands turns ticks journal) left right {old} {new} w idle (inr none) = all_unopened w.status (new ≡ old) none.same
+reports_unopened (Replay hands) left right {old} {new} w idle reports = all_unopened w.status (new ≡ old) (idle refl)
+reports_unopened (Watch need members shards) left right {old} {new} w idle reports = all_unopened w.status (new ≡ old) (idle refl)
+reports_unopened (Load sessions ticks seed hands) left right {old} {new} w idle reports = all_unopened w.status (new ≡ old) (idle refl)
+reports_unopened (Pair events seed) left right {old} {new} w idle reports = all_unopened w.status (new ≡ old) (idle refl)
 
 -- the outside is as it was, where the status comes before any port is opened
 pub unopened : (job : Job) (left right : Option (List ℕ)) {old new : Edges} (w : Wanted) (result : Status) → IsDecided result w.status
     → result ≢ ReadFault
-    → (serves job ≡ false → new ≡ old) → Tells job left right old new w → WhereUnopened result (new ≡ old)
-unopened job left right w ReadFault is reads idle tells = absurd (reads refl)
-unopened job left right w WriteFault is reads idle tells = tt
-unopened job left right w Memory is reads idle tells = tt
-unopened job left right {old} {new} w result is reads idle tells =
-    subst (λ status. WhereUnopened status (new ≡ old)) (sym is) (tells_unopened job left right w idle tells)
+    → (serves job ≡ false → new ≡ old) → Reports job left right old new w → WhereUnopened result (new ≡ old)
+unopened job left right w ReadFault is reads idle reports = absurd (reads refl)
+unopened job left right w WriteFault is reads idle reports = tt
+unopened job left right w Memory is reads idle reports = tt
+unopened job left right {old} {new} w result is reads idle reports =
+    subst (λ status. WhereUnopened status (new ≡ old)) (sym is) (reports_unopened job left right w idle reports)

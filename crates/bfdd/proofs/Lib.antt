@@ -9,12 +9,12 @@ pub mod Leading
 pub mod Answering
 pub mod ServedText
 pub mod Taking
-pub mod Telling
+pub mod RunReport
 mod WatchedTextCommon
 mod Shared
 mod Copies
 mod TextLines
 mod Polling
-mod Told
+mod Reported
 mod Closing
 pub mod Steps

@@ -46,14 +46,14 @@ pub kept_read : {k l : Knows} {shard : ℕ} → HasRead k l shard → HasKept 1 
 kept_read r = kept_by r.turned
 
 -- the shards before a place were polled, of these watches
-pub record HasPolled (engine : Shards) (limit number at : ℕ) (k l : Knows) (first watches : List Watching) (told : List Change) : Type 0
+pub record HasPolled (engine : Shards) (limit number at : ℕ) (k l : Knows) (first watches : List Watching) (reported : List Change) : Type 0
   where
     pub passed : HasPassed at k l
     pub went : (r : ℕ) → Went k l [] r
     pub long : length watches ≡ length engine.locks
     pub done : (r : ℕ) → r < at → r < length engine.locks → slice_get watches r ≡ Some (watching (configs_at engine r) (seen_at l r) limit)
     pub left : (r : ℕ) → at ≤ r → slice_get watches r ≡ slice_get first r
-    pub told_is : (d : Watching) → told ≡ merged_of at (λ r. news number (slice_index_or first r d) (seen_at l r))
+    pub reported_is : (d : Watching) → reported ≡ merged_of at (λ r. news number (slice_index_or first r d) (seen_at l r))
 
 pub polled_none : {engine : Shards} {limit : ℕ} (number : ℕ) (k : Knows) {watches : List Watching} → AreBehind engine limit k watches
     → HasPolled engine limit number 0 k k watches watches []
@@ -63,12 +63,12 @@ polled_none number k w = record {
   long = w.long;
   done = λ r h inside. absurd (omega (arith, h));
   left = λ r h. refl;
-  told_is = λ d. refl;
+  reported_is = λ d. refl;
 }
 
-pub polled_first : {engine : Shards} {limit : ℕ} (number : ℕ) (k : Knows) {watches : List Watching} {told : List Change} → told ≡ []
+pub polled_first : {engine : Shards} {limit : ℕ} (number : ℕ) (k : Knows) {watches : List Watching} {reported : List Change} → reported ≡ []
     → AreBehind engine limit k watches
-    → HasPolled engine limit number 0 k k watches watches told
+    → HasPolled engine limit number 0 k k watches watches reported
 polled_first {engine} {limit} number k {watches} none w =
     subst (HasPolled engine limit number 0 k k watches watches) (sym none) (polled_none number k w)
 
@@ -77,9 +77,9 @@ pub at_place : {n at : ℕ} (watches : List Watching) {w : Watching} → length 
     → slice_get watches at ≡ Some w
 at_place {at = at} watches {w} long inside is = slice_get-get_or watches at w (omega (arith, long, inside)) ∙ ap (λ x. Some x) (sym is)
 
-module _ (engine : Shards) (limit number at : ℕ) (k l : Knows) (first watches : List Watching) (told : List Change) (w : Watching) where
+module _ (engine : Shards) (limit number at : ℕ) (k l : Knows) (first watches : List Watching) (reported : List Change) (w : Watching) where
   -- the next watch
-  pub behind_at : AreBehind engine limit k first → HasPolled engine limit number at k l first watches told → at < length engine.locks
+  pub behind_at : AreBehind engine limit k first → HasPolled engine limit number at k l first watches reported → at < length engine.locks
       → slice_get watches at ≡ Some w → (w.configs ≡ configs_at engine at) × (w.limit ≡ limit) × Begins w.entries (seen_at l at)
   behind_at b p inside found =
       let one = b.each at inside in
@@ -91,7 +91,7 @@ module _ (engine : Shards) (limit number at : ℕ) (k l : Knows) (first watches 
             (subst (Begins one.before) (sym (p.passed.seen_left at (omega arith))) one.begins),
       )
 
-  module _ (m : Knows) (watches2 : List Watching) (told2 more : List Change) (w2 : Watching) where
+  module _ (m : Knows) (watches2 : List Watching) (reported2 more : List Change) (w2 : Watching) where
     else_same : watches2 ≡ set watches at w2 → (r : ℕ) → r ≢ at → slice_get watches2 r ≡ slice_get watches r
     else_same put r e = ap (λ x. slice_get x r) put ∙ set_else watches at r w2 e
 
@@ -106,27 +106,29 @@ module _ (engine : Shards) (limit number at : ℕ) (k l : Knows) (first watches 
         → watching w.configs (seen_at m at) w.limit ≡ watching cs (seen_at m at) n
     same_by {cs} p q = ap (λ x. watching x (seen_at m at) w.limit) p ∙ ap (λ x. watching cs (seen_at m at) x) q
 
-    told_more : HasPolled engine limit number at k l first watches told → HasRead l m at → slice_get watches at ≡ Some w
-        → more ≡ news number w (seen_at m at) → told2 ≡ merged told more
-        → (d : Watching) → told2 ≡ merged_of (suc at) (λ r. news number (slice_index_or first r d) (seen_at m r))
-    told_more p read found news_is merged_is d =
+    reported_more : HasPolled engine limit number at k l first watches reported → HasRead l m at → slice_get watches at ≡ Some w
+        → more ≡ news number w (seen_at m at) → reported2 ≡ merged reported more
+        → (d : Watching) → reported2 ≡ merged_of (suc at) (λ r. news number (slice_index_or first r d) (seen_at m r))
+    reported_more p read found news_is merged_is d =
         let its : slice_index_or first at d ≡ w = get_or_from_slice_get first at w d (sym (p.left at (omega arith)) ∙ found) in
         merged_is
-        ∙ (ap (λ x. merged x more) (p.told_is d ∙ same_before read d)
+        ∙ (ap (λ x. merged x more) (p.reported_is d ∙ same_before read d)
         ∙ ap (λ x. merged (merged_of at (λ r. news number (slice_index_or first r d) (seen_at m r))) x)
         (news_is ∙ ap (λ x. news number x (seen_at m at)) (sym its)))
 
-    pub polled_went : k.0 ≡ 0 → HasPolled engine limit number at k l first watches told → HasRead l m at → (r : ℕ) → r < length engine.locks
+    pub polled_went : k.0 ≡ 0 → HasPolled engine limit number at k l first watches reported → HasRead l m at → (r : ℕ)
+        → r < length engine.locks
         → Went k m [] r
     polled_went one p read r inside = dite (ℕ_discrete r at)
         (λ e. subst (Went k m []) (sym e) (went_on (p.went at) (read_went (p.passed.kept.number ∙ one) read)))
         (λ e. went_on (p.went r) (went_same (read.turned.seen_elsewhere r e)))
 
     -- it was polled
-    pub polled_on : k.0 ≡ 0 → AreBehind engine limit k first → HasPolled engine limit number at k l first watches told
+    pub polled_on : k.0 ≡ 0 → AreBehind engine limit k first → HasPolled engine limit number at k l first watches reported
         → at < length engine.locks
         → slice_get watches at ≡ Some w → HasRead l m at → w2 ≡ record w { entries = seen_at m at } → watches2 ≡ set watches at w2
-        → more ≡ news number w (seen_at m at) → told2 ≡ merged told more → HasPolled engine limit number (at + 1) k m first watches2 told2
+        → more ≡ news number w (seen_at m at) → reported2 ≡ merged reported more
+        → HasPolled engine limit number (at + 1) k m first watches2 reported2
     polled_on one b p inside found read taken put news_is merged_is =
         let its = behind_at b p inside found in
         record {
@@ -142,15 +144,17 @@ module _ (engine : Shards) (limit number at : ℕ) (k l : Knows) (first watches 
               (λ e. else_same put r e ∙ (p.done r (omega (arith, h, e)) within
               ∙ ap (λ t. Some (watching (configs_at engine r) t limit)) (sym (read.turned.seen_elsewhere r e))));
           left = λ r h. else_same put r (λ e. omega (arith, e, h)) ∙ p.left r (omega (arith, h));
-          told_is = λ d. told_more p read found news_is merged_is d ∙ ap (λ n. merged_of n
+          reported_is = λ d. reported_more p read found news_is merged_is d ∙ ap (λ n. merged_of n
               (λ r. news number (slice_index_or first r d) (seen_at m r))) (let z : suc at ≡ at + 1 = omega arith in z);
         }
 
 -- all were polled
-module _ {engine : Shards} {limit number at : ℕ} {k l : Knows} {first watches : List Watching} {told : List Change} where
-  pub polled_all : at ≡ length engine.locks → HasPolled engine limit number at k l first watches told → AreWatched engine limit l watches
+module _ {engine : Shards} {limit number at : ℕ} {k l : Knows} {first watches : List Watching} {reported : List Change} where
+  pub polled_all : at ≡ length engine.locks → HasPolled engine limit number at k l first watches reported
+      → AreWatched engine limit l watches
   polled_all end p = record { long = p.long; each = λ r h. p.done r (omega (arith, h, end)) h }
 
-  pub polled_told : at ≡ length engine.locks → HasPolled engine limit number at k l first watches told
-      → (d : Watching) → told ≡ merged_of (length engine.locks) (λ r. news number (slice_index_or first r d) (seen_at l r))
-  polled_told end p d = subst (λ n. told ≡ merged_of n (λ r. news number (slice_index_or first r d) (seen_at l r))) end (p.told_is d)
+  pub polled_reported : at ≡ length engine.locks → HasPolled engine limit number at k l first watches reported
+      → (d : Watching) → reported ≡ merged_of (length engine.locks) (λ r. news number (slice_index_or first r d) (seen_at l r))
+  polled_reported end p d = subst (λ n. reported ≡ merged_of n (λ r. news number (slice_index_or first r d) (seen_at l r))) end
+      (p.reported_is d)

@@ -2,7 +2,7 @@
 use Rattle.bfdd.proofs.Common.{◌≡◌, ◌⊎◌, ◌≤◌, ℕ, true, List, length, Option, Some, None, Ok, inl, inr, refl, subst, arith, ◌+◌, ◌-◌, ◌^◌}
 use Rattle.bfdd.proofs.Common.{min, IfSome, Rose, risen, Status, Memory, Comes, Edges, HasNoScript, HasServedScript, IsFaulty}
 use Rattle.bfdd.proofs.Common.{IsServedToFinish, IsOverlong, IsServed, Wanted, most_bytes, OfServing, serves, Job, Lists, script_of, Serve}
-use Rattle.bfdd.proofs.Common.{Tells}
+use Rattle.bfdd.proofs.Common.{Reports}
 use Rattle.std.proofs.Math.Nat.{le-max_right}
 use Rattle.bfdd.proofs.ServedText.{read_whole}
 
@@ -43,10 +43,10 @@ of_script job bytes right old new w result is ports (inr none) = λ few script s
 
 -- with an outside that doesn't fail a script is served to its finish
 pub finished : (job : Job) (left right : Option (List ℕ)) (old new : Edges) (w : Wanted) {result : Status}
-    → (result ≡ w.status) ⊎ (result ≡ Memory) → (Rose old.ports.faults new.ports.faults → ⊥) → Tells job left right old new w
+    → (result ≡ w.status) ⊎ (result ≡ Memory) → (Rose old.ports.faults new.ports.faults → ⊥) → Reports job left right old new w
     → serves job ≡ true
     → IfSome left (IsServedToFinish job old new result)
-finished job None right old new w is ports tells serving = tt
-finished (Serve hands turns ticks journal) (Some bytes) right old new w {result} is ports tells serving =
-    of_script (Serve hands turns ticks journal) bytes right old new w result is ports tells
-finished job (Some bytes) right old new w is ports tells serving = cc
+finished job None right old new w is ports reports serving = tt
+finished (Serve hands turns ticks journal) (Some bytes) right old new w {result} is ports reports serving =
+    of_script (Serve hands turns ticks journal) bytes right old new w result is ports reports
+finished job (Some bytes) right old new w is ports reports serving = cc

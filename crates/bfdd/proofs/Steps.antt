@@ -16,7 +16,7 @@ pub lines_step : (text : List ℕ) {more : List ℕ} (n : ℕ) {o : Outcome} {al
     → all ≡ o ∷ os → cs ≡ changes_in n o.items → after ≡ group_after cs g
     → more ≡ text ++ watched_lines n cs g → text ++ watched_lines_from n all g ≡ goal → more ++ watched_lines_from (n + 1) os after ≡ goal
 unfolding watched_lines_from
-lines_step text n {o} {os} g split are moved told so_far =
+lines_step text n {o} {os} g split are moved reported so_far =
     let here : List Change = changes_in n o.items in
     cc (append_assoc text (watched_lines n here g) (watched_lines_from (n + 1) os (group_after here g)))
 
@@ -28,11 +28,11 @@ unfolding changes_from
 group_step n {o} {os} g split are moved so_far = cc (group_twice (changes_in n o.items) (changes_from (n + 1) os) g)
 
 -- and the number of changes
-pub count_step : (n told more : ℕ) {goal : ℕ} {o : Outcome} {all os : List Outcome} {cs : List Change} → all ≡ o ∷ os
-    → cs ≡ changes_in n o.items → more ≡ told + length cs → told + length (changes_from n all) ≡ goal
+pub count_step : (n reported more : ℕ) {goal : ℕ} {o : Outcome} {all os : List Outcome} {cs : List Change} → all ≡ o ∷ os
+    → cs ≡ changes_in n o.items → more ≡ reported + length cs → reported + length (changes_from n all) ≡ goal
     → more + length (changes_from (n + 1) os) ≡ goal
 unfolding changes_from
-count_step n told more {o} {os} split are added so_far = omega (
+count_step n reported more {o} {os} split are added so_far = omega (
   arith,
   added,
   ap (λ ds. length ds) are,
@@ -50,9 +50,9 @@ lines_some : (n : ℕ) (cs : List Change) → length cs ≤ length (flat_map (ch
 lines_some n [] = omega arith
 lines_some n (c ∷ cs) = omega (arith, line_some n c, lines_some n cs, length-append (change_line n c) (flat_map (change_line n) cs))
 
-pub few_step : (text : List ℕ) {more : List ℕ} (n : ℕ) {told : ℕ} (cs : List Change) (g : Group) → more ≡ text ++ watched_lines n cs g
-    → told ≤ length text
-    → told + length cs ≤ length more
+pub few_step : (text : List ℕ) {more : List ℕ} (n : ℕ) {reported : ℕ} (cs : List Change) (g : Group) → more ≡ text ++ watched_lines n cs g
+    → reported ≤ length text
+    → reported + length cs ≤ length more
 few_step text n cs g is few = omega (
   arith,
   ap length is,
@@ -63,14 +63,15 @@ few_step text n cs g is few = omega (
 )
 
 -- the end: nothing is left
-pub end_told : (text : List ℕ) {more : List ℕ} (n told : ℕ) {all : List Outcome} (goal : List Outcome) (g before : Group) → all ≡ []
+pub end_reported : (text : List ℕ) {more : List ℕ} (n reported : ℕ) {all : List Outcome} (goal : List Outcome) (g before : Group) → all ≡ []
     → text ++ watched_lines_from n all g ≡ watched_lines_from 1 goal before
     → group_after (changes_from n all) g ≡ group_after (changes_from 1 goal) before
-    → told + length (changes_from n all) ≡ length (changes_from 1 goal) → more ≡ text ++ watched_line told g → more ≡ watched goal before
+    → reported + length (changes_from n all) ≡ length (changes_from 1 goal) → more ≡ text ++ watched_line reported g
+    → more ≡ watched goal before
 unfolding watched_lines_from changes_from
-end_told text n told goal g before none whole after counted added =
+end_reported text n reported goal g before none whole after counted added =
     let text_is : text ≡ watched_lines_from 1 goal before = cc (append-nil text) in
-    let told_is : told ≡ length (changes_from 1 goal) = omega (arith, ap (λ xs. length (changes_from n xs)) none, counted) in
+    let reported_is : reported ≡ length (changes_from 1 goal) = omega (arith, ap (λ xs. length (changes_from n xs)) none, counted) in
     let group_is : g ≡ group_after (changes_from 1 goal) before =
     cc (none_heard g) in
     cc

@@ -4,7 +4,7 @@ use Rattle.bfdd.proofs.WatchedTextCommon.{append-nil, mod-lt, eq-eqb, ne_eqb, di
 use Rattle.bfdd.proofs.WatchedTextCommon.{Result, Ok, Err, if◌then◌else◌, cons_option, flat_map, Out, Changed, Sent, tick_items, Running}
 use Rattle.bfdd.proofs.WatchedTextCommon.{configs_of, Ascends, SessionConfig, Reflector, Entry, ShardEvent, Own, Tick, share, history_of}
 use Rattle.bfdd.proofs.WatchedTextCommon.{event_in, events_of, last_tick, runs, outcome_of, entry_of, Among, Apart, Happening, in_shard}
-use Rattle.bfdd.proofs.WatchedTextCommon.{happening_by, entries_by, events_entries, Change, changes_in, told_by, watching, brought}
+use Rattle.bfdd.proofs.WatchedTextCommon.{happening_by, entries_by, events_entries, Change, changes_in, reported_by, watching, brought}
 use Rattle.bfdd.proofs.WatchedTextCommon.{merged_of, news, of_event, outcome_in}
 use Rattle.bfd_packet.specs.declared.arrival.Datagram.{Datagram}
 use Rattle.bfd_packet.specs.declared.discard.Test.{Test}
@@ -56,17 +56,18 @@ news_by number cs before seen limit es (Some event) past now =
     let left : drop (length before) seen ≡ entry ∷ [] = cc (drop-append_seam before (entry ∷ [])) in
     let found : events_of before ≡ es = cc (events_entries 0 es) in
     cc (
-      append-nil (told_by (watching cs before limit) entry),
+      append-nil (reported_by (watching cs before limit) entry),
       renumbered number (length before + 1) (outcome_of (last_tick es) event (runs es cs)).items,
     )
 
 -- of the whole table's sessions, after events of the whole table
-pub shard_tells : (n r number : ℕ) (before seen : List Entry) (limit : ℕ) (past : List ShardEvent) (h : Happening) (cs : List SessionConfig)
+pub shard_pieces : (n r number : ℕ) (before seen : List Entry) (limit : ℕ) (past : List ShardEvent) (h : Happening)
+    (cs : List SessionConfig)
     → r < n
     → before ≡ entries_by 0 (history_of n r past) → seen ≡ before ++ entries_by 0 (brought n h r)
     → news number (watching (share n r cs) before limit) seen
     ≡ shard_news number (last_tick past) (in_shard n r h) (share n r (runs past cs))
-shard_tells n r number before seen limit past h cs inside was now =
+shard_pieces n r number before seen limit past h cs inside was now =
     cc (
       news_by number (share n r cs) before seen limit (history_of n r past) (in_shard n r h) was now,
       last_of_shard n r past,
@@ -87,15 +88,15 @@ own_news {n} number last k m event ss some r = dite (ℕ_discrete (k % n) r)
     (λ e. rw (eq-eqb (k % n) r e) (rw (← e) (ap (λ o. changes_in number o.items) (own_gives n k m last event ss some))))
     (λ e. rw (ne_eqb (k % n) r e) refl)
 
-pub all_tell : {n : ℕ} (number last : ℕ) (h : Happening) (ss : List Running) → 0 < n → Ascends (configs_of ss) → IsQuiet h
+pub all_report : {n : ℕ} (number last : ℕ) (h : Happening) (ss : List Running) → 0 < n → Ascends (configs_of ss) → IsQuiet h
     → merged_of n (λ r. shard_news number last (in_shard n r h) (share n r ss)) ≡ changes_in number (outcome_in last h ss).items
-all_tell {n} number last (Apart outcome) ss some up quiet = none_of n ∙ sym (quiet number)
-all_tell {n} number last (Among (Own k m event)) ss some up quiet =
+all_report {n} number last (Apart outcome) ss some up quiet = none_of n ∙ sym (quiet number)
+all_report {n} number last (Among (Own k m event)) ss some up quiet =
     same_of n (λ r. shard_news number last (event_in n r (Own k m event)) (share n r ss))
     (λ r. if k % n == r then changes_in number (outcome_of last (Own k m event) ss).items else [])
     (λ r h. own_news number last k m event ss some r)
     ∙ one_of n (k % n) (changes_in number (outcome_of last (Own k m event) ss).items) (mod-lt k some)
-all_tell {n} number last (Among (Tick t)) ss some up quiet =
+all_report {n} number last (Among (Tick t)) ss some up quiet =
     same_of n (λ r. shard_news number last (Some (Tick t)) (share n r ss))
     (λ r. flat_map (λ s. changes_in number (tick_items (max last t) s)) (share n r ss))
     (λ r h. tick_changes number last t (share n r ss))

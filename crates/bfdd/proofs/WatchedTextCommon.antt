@@ -48,8 +48,8 @@ pub use Rattle.bfd_watch.specs.declared.change.Change.{Change}
 unfoldable pub use Rattle.bfd_watch.specs.Changes.{changes_from}
 pub use Rattle.bfd_watch.specs.Changes.{changes_in}
 pub use Rattle.bfd_watch.specs.Groups.{Group, group_after}
-pub use Rattle.bfd_watch.specs.Watching.{Watching, told_by, watching}
+pub use Rattle.bfd_watch.specs.Watching.{Watching, reported_by, watching}
 unfoldable pub use Rattle.bfd_watch.specs.Watched.{watched_lines_from}
 pub use Rattle.bfd_watch.specs.Watched.{watched, watched_line, watched_lines}
 pub use Rattle.bfd_replay.specs.Turning.{AllSole, HasKept, IsCutShort, IsOpenedFor, IsRefusal, Went, brought, outcome_in}
-pub use Rattle.bfdd.specs.Following.{AreBehind, AreWatched, IsUntaken, lower, merged, merged_of, news, not_lower, of_event, told_after}
+pub use Rattle.bfdd.specs.Following.{AreBehind, AreWatched, IsUntaken, lower, merged, merged_of, news, not_lower, of_event, reported_after}

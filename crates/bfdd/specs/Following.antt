@@ -11,12 +11,12 @@ use Rattle.bfd_engine.specs.Calls.{seen_at, met_word}
 use Rattle.bfd_watch.specs.declared.change.Change.{Change}
 use Rattle.bfd_watch.specs.declared.change.WatchFault.{WatchFault}
 use Rattle.bfd_watch.specs.declared.change.WatchFault.TheVariants as watch
-use Rattle.bfd_watch.specs.Watching.{Watching, watching, told_by}
+use Rattle.bfd_watch.specs.Watching.{Watching, watching, reported_by}
 
 -- the changes that these entries report, one after another
-abbrev pub told_after : Watching → List Entry → List Change
-told_after w [] = []
-told_after w (entry ∷ entries) = told_by w entry ++ told_after (record w { entries = w.entries ++ entry ∷ [] }) entries
+abbrev pub reported_after : Watching → List Entry → List Change
+reported_after w [] = []
+reported_after w (entry ∷ entries) = reported_by w entry ++ reported_after (record w { entries = w.entries ++ entry ∷ [] }) entries
 
 -- a change, reported for the event of this number of a script
 abbrev pub of_event : ℕ → Change → Change
@@ -24,7 +24,7 @@ of_event number change = record change { number = number }
 
 -- what a watch reports for the event of this number, when its shard's history is now this
 abbrev pub news : ℕ → Watching → List Entry → List Change
-news number w seen = map (of_event number) (told_after w (drop (length w.entries) seen))
+news number w seen = map (of_event number) (reported_after w (drop (length w.entries) seen))
 
 -- the first ones of these changes, as long as their session has a lower discriminator
 abbrev pub lower : ℕ → List Change → List Change
@@ -43,8 +43,8 @@ merged (c ∷ cs) more = lower c.discr more ++ c ∷ merged cs (not_lower c.disc
 
 -- what the first so many shards report, as one
 abbrev pub merged_of : ℕ → (ℕ → List Change) → List Change
-merged_of zero told = []
-merged_of (suc n) told = merged (merged_of n told) (told n)
+merged_of zero reported = []
+merged_of (suc n) reported = merged (merged_of n reported) (reported n)
 
 -- this is the watch of a shard, and it has received a prefix of what a caller has seen of the shard
 pub record IsBehind (engine : Shards) (limit : ℕ) (k : Knows) (r : ℕ) (found : Option Watching) : Type 0 where

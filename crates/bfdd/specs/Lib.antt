@@ -1,5 +1,5 @@
 pub mod Status
-pub mod Telling
+pub mod RunReport
 pub mod Writing
 pub mod Numbers
 pub mod Options
@@ -11,7 +11,7 @@ pub mod Held
 pub mod Outside
 pub mod Serving
 pub mod Codes
-pub mod Tells
+pub mod Reports
 pub mod Text
 pub mod Words
 pub mod Members

@@ -2,8 +2,8 @@
 use Rattle.std.specs.Prelude.{◌≡◌, ◌⊎◌, ◌<◌, ◌≤◌, ℕ, true, List, length, IfSome, Option, Ok, Err}
 use Rattle.std.specs.Io.KnownBytes.{Consumes, IsAtEnd}
 use Rattle.bfd_edge.specs.Faults.{Rose}
-use Rattle.bfd_edge.specs.Ports.{PortsTold}
-use Rattle.bfd_edge.specs.Tickers.{TickerTold}
+use Rattle.bfd_edge.specs.Ports.{PortsObserved}
+use Rattle.bfd_edge.specs.Tickers.{TickerObserved}
 use Rattle.bfd_script.specs.declared.fields.fault.BadLine.{BadLine as FaultyLine}
 use Rattle.bfd_script.specs.Reading.{Lists, script_of}
 use Rattle.bfd_serve.specs.declared.serving.Limits.{Limits}
@@ -17,7 +17,7 @@ use Rattle.bfdd.specs.declared.words.job.Job.{Job}
 use Rattle.bfdd.specs.declared.words.job.Job.TheVariants.{Serve}
 use Rattle.bfdd.specs.declared.job.serving.Numbers.{Numbers}
 use Rattle.bfdd.specs.declared.job.serving.Unread.{Unread}
-use Rattle.bfdd.specs.declared.job.serving.Unread.TheVariants.{Told, Failed, Memory}
+use Rattle.bfdd.specs.declared.job.serving.Unread.TheVariants.{Reported, Failed, Memory}
 use Rattle.bfdd.specs.declared.job.status.Status.{Status}
 use Rattle.bfdd.specs.declared.job.status.Status.TheVariants as status
 use Rattle.bfdd.specs.declared.job.status.Status.TheVariants.{Done, BadLine, PortFault, LinkFault, TooLarge, JournalFull, Turns, ClockFault}
@@ -41,10 +41,10 @@ job_by n = Serve n.hands n.turns n.ticks n.journal
 
 -- what is observed of a run's ports and its ticker
 pub record Edges : Type 0 where
-  pub ports : PortsTold
-  pub ticker : TickerTold
+  pub ports : PortsObserved
+  pub ticker : TickerObserved
 
-abbrev pub edges_of : PortsTold → TickerTold → Edges
+abbrev pub edges_of : PortsObserved → TickerObserved → Edges
 edges_of ports ticker = record { ports = ports; ticker = ticker }
 
 -- these closed shards, this text, so many lost sends and this finish are those of a run of the script by the job's numbers
@@ -96,7 +96,7 @@ pub record IsOverlong (left right : Option (List ℕ)) (w : Wanted) : Type 0 whe
 
 -- why no script was read, and whether the count of the source rose
 abbrev pub IsUnread : Option (List ℕ) → Option (List ℕ) → ℕ → ℕ → Unread → Type 0
-IsUnread left right before now (Told answer) = (IsFaulty left right answer ⊎ IsOverlong left right answer) × IsAnswer answer
+IsUnread left right before now (Reported answer) = (IsFaulty left right answer ⊎ IsOverlong left right answer) × IsAnswer answer
     × (now ≡ before)
 IsUnread left right before now Failed = Rose before now
 IsUnread left right before now Memory = now ≡ before

@@ -1,5 +1,5 @@
 //! Workers of a run that wait for one another, through the words.
-ghost use Rattle.bfd_edge.specs.MemoryTicker.{told_of};
+ghost use Rattle.bfd_edge.specs.MemoryTicker.{observed_of};
 
 use crate::Status;
 use crate::serve_tests::PASSIVE;
@@ -65,7 +65,7 @@ struct MeetingTicker<'a> {
 }
 
 impl Ticker for MeetingTicker<'_> {
-    ghost told = { λ t. told_of t.inner };
+    ghost reported = { λ t. observed_of t.inner };
 
     fn next(&mut self) -> Next {
         self.meeting.second.store(1, Ordering::SeqCst);

@@ -346,7 +346,7 @@ fn are_reported<R: Threads + Wait + Sync>(rt: &R, alloc: Global, rows: &[Row]) -
     for (text, written) in rows {
         for words in REPLAYS {
             let case = calm(words, text, written);
-            if !ended(rt, alloc, &case).ok()?.is_told(&case) {
+            if !ended(rt, alloc, &case).ok()?.is_reported(&case) {
                 return Some(false);
             }
         }
@@ -433,7 +433,7 @@ fn faulty(words: &'static [&'static str], row: &Faulty) -> Case<'static> {
 fn lines_with_a_fault(rt: HostRuntime) -> Result<(), Fail> {
     for row in FAULTY {
         let case = faulty(&["replay"], row);
-        assert!(rt; ended(&rt, rt.alloc(), &case)?.is_told(&case));
+        assert!(rt; ended(&rt, rt.alloc(), &case)?.is_reported(&case));
     }
     Ok(())
 }
@@ -453,7 +453,7 @@ fn words_outside_the_grammar(rt: HostRuntime) -> Result<(), Fail> {
     for words in USAGES {
         let mut case = calm(words, EXPIRING, "");
         case.status = Status::Usage;
-        assert!(rt; ended(&rt, rt.alloc(), &case)?.is_told(&case));
+        assert!(rt; ended(&rt, rt.alloc(), &case)?.is_reported(&case));
     }
     Ok(())
 }
@@ -487,10 +487,10 @@ const DONE: &[(&[&str], &str, &str)] = &[
 fn what_each_word_writes(rt: HostRuntime) -> Result<(), Fail> {
     for (words, text, written) in DONE {
         let case = calm(words, text, written);
-        assert!(rt; ended(&rt, rt.alloc(), &case)?.is_told(&case));
+        assert!(rt; ended(&rt, rt.alloc(), &case)?.is_reported(&case));
     }
     let mut stranger = calm(&["watch", "1", "9"], EXPIRING, "");
     stranger.status = Status::NoMember(9);
-    assert!(rt; ended(&rt, rt.alloc(), &stranger)?.is_told(&stranger));
+    assert!(rt; ended(&rt, rt.alloc(), &stranger)?.is_reported(&stranger));
     Ok(())
 }

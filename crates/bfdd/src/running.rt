@@ -10,7 +10,7 @@ ghost use Rattle.bfdd.specs.Words.{OfServing, is_reading, is_serving};
 ghost use Rattle.bfd_serve.specs.Linking.{AreShut};
 ghost use Rattle.bfdd.specs.Grammar.{job_of};
 ghost use Rattle.bfdd.specs.Status.{IsDecided, IsEndOf, OnBadLine, UnlessWriting, WhereUnopened, WhereUnwritten};
-ghost use Rattle.bfdd.specs.Telling.{IsBrokenOff, IsTold};
+ghost use Rattle.bfdd.specs.RunReport.{IsBrokenOff, IsReported};
 
 use crate::job::{Status, answer_to_job};
 use crate::output::write_answer;
@@ -46,8 +46,8 @@ pub fn run<
 ) -> Status
 where
     P::Link: Send,
-    requires new { (number : ℕ) → (P.told ports.old).opened number ≡ false }
-    requires clock { (T.told ticker.old).over ≡ false }
+    requires new { (number : ℕ) → (P.observed ports.old).opened number ≡ false }
+    requires clock { (T.observed ticker.old).over ≡ false }
 
     // The words and the text decide: the status is the required one, or memory, the source or the sink failed.
     ensures decided { IfSome (wanted (job_of (map (λ word. string_bytes word) words.now)) (S.left source.old))
@@ -101,31 +101,31 @@ where
     // the text, and each caller's entries, its sends and its end are those of what its link or the ticker gave. The status is the finish,
     // and shows its cause.
     ensures fits { IsEndOf (job_of (map (λ word. string_bytes word) words.now)) result }
-    ensures told { result ≢ Status.Memory → result ≢ Status.ReadFault
+    ensures reported { result ≢ Status.Memory → result ≢ Status.ReadFault
         → IfSome (job_of (map (λ word. string_bytes word) words.now))
-        (λ job. IsTold job (S.left source.old) (S.left source.new)
-        (edges_of (P.told ports.old) (T.told ticker.old)) (edges_of (P.told ports.new) (T.told ticker.new))
+        (λ job. IsReported job (S.left source.old) (S.left source.new)
+        (edges_of (P.observed ports.old) (T.observed ticker.old)) (edges_of (P.observed ports.new) (T.observed ticker.new))
         (K.taken sink.old) (K.taken sink.new) (K.faults sink.old) (K.faults sink.new) result) }
 
     // When memory ran out, nothing of it was written, or a prefix.
     ensures broken_off { result ≡ Status.Memory → IsBrokenOff (job_of (map (λ word. string_bytes word) words.now))
         (S.left source.old) (S.left source.new)
-        (edges_of (P.told ports.old) (T.told ticker.old)) (edges_of (P.told ports.new) (T.told ticker.new))
+        (edges_of (P.observed ports.old) (T.observed ticker.old)) (edges_of (P.observed ports.new) (T.observed ticker.new))
         (K.taken sink.old) (K.taken sink.new) }
 
     // Where no script is served no link is opened and no tick is asked for, and every link that is opened is shut.
     ensures idle { is_serving (job_of (map (λ word. string_bytes word) words.now)) ≡ false
         → (ports.new ≡ ports.old) × (ticker.new ≡ ticker.old) }
     ensures unopened { WhereUnopened result
-        (edges_of (P.told ports.new) (T.told ticker.new) ≡ edges_of (P.told ports.old) (T.told ticker.old)) }
-    ensures shut { AreShut (P.told ports.new) }
+        (edges_of (P.observed ports.new) (T.observed ticker.new) ≡ edges_of (P.observed ports.old) (T.observed ticker.old)) }
+    ensures shut { AreShut (P.observed ports.new) }
 
     // With source, sink and ports that don't fail, a script is served to its finish, which is the status, or memory ran out.
     ensures finished { OfServing (job_of (map (λ word. string_bytes word) words.now))
         (λ job. ¬ Rose (S.faults source.old) (S.faults source.new) → ¬ Rose (K.faults sink.old) (K.faults sink.new)
-        → ¬ Rose (P.told ports.old).faults (P.told ports.new).faults
+        → ¬ Rose (P.observed ports.old).faults (P.observed ports.new).faults
         → IfSome (S.left source.old) (IsServedToFinish job
-        (edges_of (P.told ports.old) (T.told ticker.old)) (edges_of (P.told ports.new) (T.told ticker.new)) result)) }
+        (edges_of (P.observed ports.old) (T.observed ticker.old)) (edges_of (P.observed ports.new) (T.observed ticker.new)) result)) }
 {
     let Some(job) = job_of(words) else {
         return Status::Usage;

@@ -222,7 +222,7 @@ fn goes<R: Threads + Wait + Sync>(rt: &R, alloc: Global, number: u32) -> Option<
     let case = heard_case(number)?;
     let ended = ended(rt, alloc, &case).ok()?;
     let shut = (0 < case.shut, 1 < case.shut, 2 < case.shut);
-    Some(ended.is_told(&case) && ended.shut == shut)
+    Some(ended.is_reported(&case) && ended.shut == shut)
 }
 
 #[test]

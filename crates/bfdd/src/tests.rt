@@ -43,7 +43,7 @@ fn packet(alloc: Global) -> Result<Arrival, AllocError> {
 
 /// A link that hears these, and fails at the calls of `send` named.
 fn link(alloc: Global, hears: &[Hears], fails: Vec<u64>) -> Result<MemLink, AllocError>
-    ensures { IfOk result (λ link. IsNewLink (memory_link.told_of link)) }
+    ensures { IfOk result (λ link. IsNewLink (memory_link.observed_of link)) }
 {
     let mut heard = Vec::new(alloc);
     for next in hears {
@@ -145,7 +145,7 @@ pub(crate) struct Outcome {
 
 impl Outcome {
     /// Whether this is the result of the case, as it says: the status, and what was written.
-    pub(crate) fn is_told(&self, case: &Case<'_>) -> bool {
+    pub(crate) fn is_reported(&self, case: &Case<'_>) -> bool {
         self.status == case.status && self.written.as_slice() == case.written.as_bytes()
     }
 }
@@ -158,7 +158,7 @@ pub(crate) fn met<R: Threads + Wait + Sync, T: Ticker + Send, G: Gate + Sync>(
     ticker: &mut T,
     gate: &G,
 ) -> Result<Outcome, AllocError>
-    requires clock { (T.told ticker.old).over ≡ false }
+    requires clock { (T.observed ticker.old).over ≡ false }
 {
     let words = words_of(alloc, case.words)?;
     let text = case.text.as_bytes().to_vec(alloc)?;
@@ -295,7 +295,7 @@ fn runs(rt: HostRuntime) -> Result<(), Fail> {
     ];
     for case in &cases {
         let ended = ended(&rt, rt.alloc(), case)?;
-        assert!(rt; ended.is_told(case));
+        assert!(rt; ended.is_reported(case));
     }
     Ok(())
 }

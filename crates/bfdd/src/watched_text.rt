@@ -4,10 +4,10 @@
 //! text. [`first_unknown`] finds a member that names no session. `specs/Members.antt` says what the group is at the start, and what
 //! its text is, over the definitions of `bfd_instance` and of this crate.
 
+mod change_text;
 mod following;
 mod members;
 mod merging;
-mod telling;
 
+pub use change_text::watched;
 pub use members::first_unknown;
-pub use telling::watched;

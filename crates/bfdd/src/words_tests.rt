@@ -68,11 +68,11 @@ fn jobs(rt: HostRuntime) -> Result<(), Fail> {
     assert!(rt; are_for(&words, usual, (1_000_000, 10_000, 65_536)));
     let line = "serve --journal 1 --ticks 0 --turns 4 --timers levels --workers 3 --shards 2";
     let words = split(rt.alloc(), line)?;
-    let told = Hands {
+    let reported = Hands {
         shards: 2,
         workers: 3,
         timers: Form::Levels,
     };
-    assert!(rt; are_for(&words, told, (4, 0, 1)));
+    assert!(rt; are_for(&words, reported, (4, 0, 1)));
     Ok(())
 }

@@ -5,7 +5,7 @@ ghost use Rattle.bfd_demux.specs.Index.{AreAddresses, AreNames};
 ghost use Rattle.bfd_demux.specs.Rows.{build_fault};
 ghost use Rattle.bfd_session.specs.Rows.{table_of as table_in};
 ghost use Rattle.bfd_session.specs.Tables.{members};
-ghost use Rattle.bfd_replay.specs.Happenings.{told_apart};
+ghost use Rattle.bfd_replay.specs.Happenings.{apart_pieces};
 ghost use Rattle.bfd_instance.specs.Stage.{IsTable};
 ghost use Rattle.bfd_replay.specs.Planned.{IsMet, AreQueues, AreRuns, IsPlanned, IsPlanOf, happenings, route_is};
 ghost use Rattle.bfd_replay.specs.declared.plan.runs.Run.{Run as RunIn};
@@ -71,8 +71,8 @@ fn take_in(
         (map (λ q. q.items) queues.new.items) apart.old apart.new) }
 {
     match route {
-        Route::Rests(answer) => apart.tell_event(number, &[], &answer),
-        Route::Answers(out) => apart.tell_event(number, &[out], &Answer::Handled),
+        Route::Rests(answer) => apart.add_event(number, &[], &answer),
+        Route::Answers(out) => apart.add_event(number, &[out], &Answer::Handled),
         Route::Happens(event) => queue_event(queues, number, event),
     }
 }
@@ -213,7 +213,7 @@ pub fn planned<R: Threads + Sync>(
     requires events { length events.items ≤ 200000 }
     ensures table { IfOk result (λ plan. plan.table ≡ members roster pool.items) }
     ensures queues { IfOk result (λ plan. AreQueues shards (happenings roster pool.items events.items) plan.queues.items) }
-    ensures apart { IfOk result (λ plan. plan.apart ≡ told_apart 1 (happenings roster pool.items events.items)) }
+    ensures apart { IfOk result (λ plan. plan.apart ≡ apart_pieces 1 (happenings roster pool.items events.items)) }
     ensures met { IfOk result (λ plan. AllByRecursion (IsMet roster) (happenings roster pool.items events.items)) }
 {
     let (demux, runs) = table_and_runs(rt, alloc, rows, events, workers)?;
@@ -222,9 +222,9 @@ pub fn planned<R: Threads + Sync>(
     left.reverse();
     let mut queues = new_queues(alloc, shards as usize)?;
     let mut apart = Part::new(alloc);
-    'runs: while let Some((more, told)) = next_of(&mut left) {
+    'runs: while let Some((more, reported)) = next_of(&mut left) {
         queues = push_pieces(alloc, queues, more)?;
-        apart.append(&told)?;
+        apart.append(&reported)?;
     }
     Ok(Plan {
         table,

@@ -63,7 +63,7 @@ fn gather(
     text: &mut Vec<u8>,
 ) -> Result<(u64, u64), AllocError>
     requires { keys heads.old ≡ map first_key rests.old.items }
-    ensures told { (dealt : List Dealt) → IsSpread dealt rests.old.items
+    ensures reported { (dealt : List Dealt) → IsSpread dealt rests.old.items
         → OnOk result (text.new.items ≡ text.old.items ++ dealt_text dealt) }
     ensures txs { (dealt : List Dealt) → IsSpread dealt rests.old.items
         → IfOk result (λ counts. counts.0 ≡ sum_by (λ d. d.piece.txs) dealt) }

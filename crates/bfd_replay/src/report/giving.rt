@@ -41,7 +41,7 @@ fn give<K: Sink>(
     sink: &mut K,
 ) -> Result<(u64, u64), Fault>
     requires { keys heads.old ≡ map first_key rests.old.items }
-    ensures told { (dealt : List Dealt) → IsSpread dealt rests.old.items
+    ensures reported { (dealt : List Dealt) → IsSpread dealt rests.old.items
         → OnOk result (TookUpTo (K.taken sink.old) (K.taken sink.new)
         (text.old.items ++ dealt_text dealt) text.new.items) }
     ensures front { (dealt : List Dealt) → IsSpread dealt rests.old.items
@@ -73,7 +73,7 @@ fn give_sole<K: Sink>(
     text: &mut Vec<u8>,
     sink: &mut K,
 ) -> Result<(u64, u64), Fault>
-    ensures told { OnOk result (TookUpTo (K.taken sink.old) (K.taken sink.new)
+    ensures reported { OnOk result (TookUpTo (K.taken sink.old) (K.taken sink.new)
         (text.old.items ++ texts part.old) text.new.items) }
     ensures front { TookFront (K.taken sink.old) (K.taken sink.new) (text.old.items ++ texts part.old) }
     ensures txs { IfOk result (λ counts. counts.0 ≡ sum_by (λ p. p.txs) part.old) }
@@ -95,7 +95,7 @@ pub(crate) fn give_all<K: Sink>(
     text: &mut Vec<u8>,
     sink: &mut K,
 ) -> Result<(u64, u64), Fault>
-    ensures told { (dealt : List Dealt) → IsSpread dealt parts.old.items
+    ensures reported { (dealt : List Dealt) → IsSpread dealt parts.old.items
         → OnOk result (TookUpTo (K.taken sink.old) (K.taken sink.new)
         (text.old.items ++ dealt_text dealt) text.new.items) }
     ensures front { (dealt : List Dealt) → IsSpread dealt parts.old.items

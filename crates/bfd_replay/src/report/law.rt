@@ -12,7 +12,7 @@ ghost use Rattle.bfd_shard.specs.Dealing.{history_of, share};
 ghost use Rattle.bfd_shard.specs.History.{last_tick, moved, outcome_of, runs};
 ghost use Rattle.bfd_replay.specs.declared.report.queue.Numbered.{Numbered};
 ghost use Rattle.bfd_replay.specs.Pieces.{Piece, event_pieces, whole_piece};
-ghost use Rattle.bfd_replay.specs.Happenings.{Happening, Apart, Among, AreParts, session_event, in_shard, numbered, queue, shard_tells, told_apart, told_whole};
+ghost use Rattle.bfd_replay.specs.Happenings.{Happening, Apart, Among, AreParts, session_event, in_shard, numbered, queue, shard_pieces, apart_pieces, whole_pieces};
 ghost use Rattle.bfd_replay.specs.Spread.{AreGathered};
 
 /// Laws of sessions that are dealt out, and no work. A shard's sessions after its history are those of the whole table after
@@ -48,22 +48,22 @@ pub fn dealing_laws()
 /// that the events before it left; an event that matches no session adds its one piece to the part of those; what is reported of those
 /// among events behind others stands behind what is reported of theirs; and of a table whose sessions ascend by discriminator, the parts of
 /// any number of shards, taken in the order of a report, are the pieces of the whole table.
-#[tactic(auto, using(crate::proofs::Histories::told_runs, crate::proofs::Histories::apart_more, crate::proofs::Histories::among_more, crate::proofs::Histories::apart_append, crate::proofs::Whole::parts_gathered))]
-pub fn telling_laws()
+#[tactic(auto, using(crate::proofs::Histories::reported_runs, crate::proofs::Histories::apart_more, crate::proofs::Histories::among_more, crate::proofs::Histories::apart_append, crate::proofs::Whole::parts_gathered))]
+pub fn piece_laws()
     ensures more { (events : List Numbered) (event : Numbered) (configs : List SessionConfig)
-        → shard_tells 0 (events ++ event ∷ []) (map started configs)
-        ≡ shard_tells 0 events (map started configs) ++ event_pieces event.number event.event
+        → shard_pieces 0 (events ++ event ∷ []) (map started configs)
+        ≡ shard_pieces 0 events (map started configs) ++ event_pieces event.number event.event
         (outcome_of (last_tick (map (λ e. e.event) events)) event.event (runs (map (λ e. e.event) events) configs)) }
     ensures more_apart { (number : ℕ) (events : List Happening) (outcome : Outcome)
-        → told_apart number (events ++ Apart outcome ∷ [])
-        ≡ told_apart number events ++ whole_piece (number + length events) outcome ∷ [] }
+        → apart_pieces number (events ++ Apart outcome ∷ [])
+        ≡ apart_pieces number events ++ whole_piece (number + length events) outcome ∷ [] }
     ensures none_apart { (number : ℕ) (events : List Happening) (event : ShardEvent)
-        → told_apart number (events ++ Among event ∷ []) ≡ told_apart number events }
+        → apart_pieces number (events ++ Among event ∷ []) ≡ apart_pieces number events }
     ensures append_apart { (number : ℕ) (events others : List Happening)
-        → told_apart number (events ++ others)
-        ≡ told_apart number events ++ told_apart (number + length events) others }
+        → apart_pieces number (events ++ others)
+        ≡ apart_pieces number events ++ apart_pieces (number + length events) others }
     ensures gathered { (shards number last : ℕ) (events : List Happening) (sessions : List Running)
         (parts : List (List Piece))
         → AreParts shards number last events sessions parts
-        → AreGathered parts (told_whole number last events sessions) }
+        → AreGathered parts (whole_pieces number last events sessions) }
 {}

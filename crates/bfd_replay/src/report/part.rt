@@ -230,13 +230,13 @@ impl Part {
 
     /// Reports all that an event of one session, or of none, gave. `number` is the event's in the replay. Fails only when out of memory, at
     /// 4 GiB of text for one event, at 2^16 packets that it sent or dropped, or at a number of 2^32 or more; then the part is as before.
-    pub fn tell_event(
+    pub fn add_event(
         &mut self,
         number: u64,
         outs: &[Out],
         answer: &Answer,
     ) -> Result<(), AllocError>
-        ensures told { OnOk result (self.new
+        ensures reported { OnOk result (self.new
             ≡ self.old ++ whole_piece number (record { items = outs.now; answer = answer.now }) ∷ []) }
         ensures same { OnErr result (self.new ≡ self.old) }
     {
@@ -245,8 +245,8 @@ impl Part {
 
     /// Reports what a tick emitted, one piece for each output. `number` is the tick's in the replay. Fails only when out of memory or when
     /// a number is 2^32 or more; then the part is as before.
-    pub fn tell_tick(&mut self, number: u64, outs: &[Out]) -> Result<(), AllocError>
-        ensures told { OnOk result (self.new ≡ self.old ++ map (item_piece number) outs.now) }
+    pub fn add_tick(&mut self, number: u64, outs: &[Out]) -> Result<(), AllocError>
+        ensures reported { OnOk result (self.new ≡ self.old ++ map (item_piece number) outs.now) }
         ensures same { OnErr result (self.new ≡ self.old) }
     {
         append_items(&mut self.marks, &mut self.text, number, outs)
@@ -254,7 +254,7 @@ impl Part {
 
     /// Appends to what it reported so far all that another part reports. Fails only when out of memory, and then the part is as before.
     pub fn append(&mut self, other: &Part) -> Result<(), AllocError>
-        ensures told { OnOk result (self.new ≡ self.old ++ other.now) }
+        ensures reported { OnOk result (self.new ≡ self.old ++ other.now) }
         ensures same { OnErr result (self.new ≡ self.old) }
     {
         append_all(&mut self.marks, &mut self.text, &other.marks, &other.text)

@@ -16,7 +16,7 @@ ghost use Rattle.bfd_replay.specs.Happenings.{Among};
 ghost use Rattle.bfd_replay.specs.Planned.{happening, happenings};
 ghost use Rattle.bfd_replay.specs.Counts.{counts_of};
 ghost use Rattle.bfd_replay.specs.Replayed.{HasTotals, HaveReplayed, taker_of};
-ghost use Rattle.bfd_replay.specs.Telling.{HasBrought, HasStopCause, HasToldEvent, HasToldFront, IsClosedAfter, IsEventStop, IsMeant, IsStop, ToldUpTo, reason_of, outcomes_on};
+ghost use Rattle.bfd_replay.specs.PendingLines.{HasBrought, HasStopCause, HasReportedEvent, HasReportedFront, IsClosedAfter, IsEventStop, IsMeant, IsStop, ReportedUpTo, reason_of, outcomes_on};
 ghost use Rattle.bfd_replay.specs.Turning.{AllSole, HasKept, IsOfOne, Went, brought};
 ghost use Rattle.bfd_replay.specs.Written.{TookFront};
 ghost use Rattle.bfd_num.specs.Counting.{IsBlankOf};
@@ -25,7 +25,7 @@ use crate::counting::{Replayed, up_all};
 use crate::plan::next_of;
 use crate::report::Counts;
 use crate::stream::opening::opened;
-use crate::stream::telling::{Stop, Told};
+use crate::stream::pending::{Pending, Stop};
 use crate::stream::ticking::tick_parts;
 use crate::stream::turning::happen;
 use bfd_edge::{Fault, Gate, Sink};
@@ -43,14 +43,14 @@ use std::sync::Wait;
 use std::sync::ledger::{Blank, Ledger};
 
 /// A tick of several shards: what their parts report of it is appended, and a long text goes to the sink.
-fn tell_parts<W: Timers, R: Wait, G: Gate, K: Sink, L: Ledger>(
+fn report_parts<W: Timers, R: Wait, G: Gate, K: Sink, L: Ledger>(
     rt: &R,
     alloc: Global,
     engine: &Engine<W>,
     pass: &mut EnginePass,
     tick: Tick,
     outs: &mut Outs,
-    told: &mut Told,
+    reported: &mut Pending,
     steps: &mut Steps<L>,
     gate: &G,
     sink: &mut K,
@@ -61,40 +61,40 @@ fn tell_parts<W: Timers, R: Wait, G: Gate, K: Sink, L: Ledger>(
     requires some { 0 < length engine.now.locks }
     requires ascends { Ascends engine.now.configs }
     requires room { (shard : ℕ) → 5 * length (configs_at engine.now shard) + 5 ≤ outs.old.room }
-    requires few { told.old.events < 200000 }
+    requires few { reported.old.events < 200000 }
     ensures of { IsOf engine.now pass.new.1 }
     ensures there { AllThere pass.new.1 }
     ensures kept { HasKept 1 pass.old pass.new }
     ensures went { OnOk result ((r : ℕ) → r < length engine.now.locks → Went pass.old pass.new (TickEvent tick ∷ []) r) }
-    ensures told { OnOk result (HasToldEvent engine.now (Among (TickEvent tick)) pass.old pass.new
-        (K.taken sink.old) (K.taken sink.new) told.old told.new) }
-    ensures events { OnOk result (told.new.events ≡ told.old.events + 1) }
-    ensures front { HasToldFront engine.now (Among (TickEvent tick)) pass.old pass.new
-        (K.taken sink.old) (K.taken sink.new) told.old }
+    ensures reported { OnOk result (HasReportedEvent engine.now (Among (TickEvent tick)) pass.old pass.new
+        (K.taken sink.old) (K.taken sink.new) reported.old reported.new) }
+    ensures events { OnOk result (reported.new.events ≡ reported.old.events + 1) }
+    ensures front { HasReportedFront engine.now (Among (TickEvent tick)) pass.old pass.new
+        (K.taken sink.old) (K.taken sink.new) reported.old }
     ensures stopped { IfErr result (IsEventStop engine.now pass.old pass.new) }
     ensures cause { IfErr result (HasStopCause (K.faults sink.old) (K.faults sink.new)) }
     ensures calm { OnOk result (K.faults sink.new ≡ K.faults sink.old) }
     ensures room { outs.new.room ≡ outs.old.room }
 {
-    let number = told.number();
+    let number = reported.number();
     let parts = match tick_parts(rt, alloc, engine, pass, number, tick, outs, steps, gate) {
         Ok(parts) => parts,
         Err(fault) => return Err(Stop::Refused(fault)),
     };
-    match told.gather(alloc, parts, sink) {
+    match reported.gather(alloc, parts, sink) {
         Ok(()) => Ok(()),
         Err(fault) => Err(Stop::Unwritten(fault)),
     }
 }
 
 /// Any other line, or a tick of one shard: it happens, what it gave is reported, and a long text goes to the sink.
-fn tell_one<W: Timers, R: Wait, G: Gate, K: Sink, L: Ledger>(
+fn report_one<W: Timers, R: Wait, G: Gate, K: Sink, L: Ledger>(
     rt: &R,
     engine: &Engine<W>,
     pass: &mut EnginePass,
     line: Line,
     outs: &mut Outs,
-    told: &mut Told,
+    reported: &mut Pending,
     steps: &mut Steps<L>,
     gate: &G,
     sink: &mut K,
@@ -105,27 +105,27 @@ fn tell_one<W: Timers, R: Wait, G: Gate, K: Sink, L: Ledger>(
     requires some { 0 < length engine.now.locks }
     requires one { IsOfOne (length engine.now.locks) (happening engine.now.configs engine.now.pool line) }
     requires room { (shard : ℕ) → 5 * length (configs_at engine.now shard) + 5 ≤ outs.old.room }
-    requires few { told.old.events < 200000 }
+    requires few { reported.old.events < 200000 }
     ensures of { IsOf engine.now pass.new.1 }
     ensures there { AllThere pass.new.1 }
     ensures kept { HasKept 1 pass.old pass.new }
     ensures went { OnOk result ((r : ℕ) → r < length engine.now.locks
         → Went pass.old pass.new (brought (length engine.now.locks) (happening engine.now.configs engine.now.pool line) r) r) }
-    ensures told { OnOk result (HasToldEvent engine.now (happening engine.now.configs engine.now.pool line) pass.old pass.new
-        (K.taken sink.old) (K.taken sink.new) told.old told.new) }
-    ensures events { OnOk result (told.new.events ≡ told.old.events + 1) }
-    ensures front { HasToldFront engine.now (happening engine.now.configs engine.now.pool line) pass.old pass.new
-        (K.taken sink.old) (K.taken sink.new) told.old }
+    ensures reported { OnOk result (HasReportedEvent engine.now (happening engine.now.configs engine.now.pool line) pass.old pass.new
+        (K.taken sink.old) (K.taken sink.new) reported.old reported.new) }
+    ensures events { OnOk result (reported.new.events ≡ reported.old.events + 1) }
+    ensures front { HasReportedFront engine.now (happening engine.now.configs engine.now.pool line) pass.old pass.new
+        (K.taken sink.old) (K.taken sink.new) reported.old }
     ensures stopped { IfErr result (IsEventStop engine.now pass.old pass.new) }
     ensures cause { IfErr result (HasStopCause (K.faults sink.old) (K.faults sink.new)) }
     ensures calm { OnOk result (K.faults sink.new ≡ K.faults sink.old) }
     ensures room { outs.new.room ≡ outs.old.room }
 {
-    let answer = match happen(rt, engine, pass, told.number(), line, outs, steps, gate) {
+    let answer = match happen(rt, engine, pass, reported.number(), line, outs, steps, gate) {
         Ok(answer) => answer,
         Err(fault) => return Err(Stop::Refused(fault)),
     };
-    match told.tell(outs, &answer, sink) {
+    match reported.append_outcome(outs, &answer, sink) {
         Ok(()) => Ok(()),
         Err(fault) => Err(Stop::Unwritten(fault)),
     }
@@ -144,14 +144,14 @@ fn shared_tick(line: &Line, shards: u32) -> Option<Tick>
 }
 
 /// One line, on any number of shards.
-fn tell_line<W: Timers, R: Wait, G: Gate, K: Sink, L: Ledger>(
+fn report_line<W: Timers, R: Wait, G: Gate, K: Sink, L: Ledger>(
     rt: &R,
     alloc: Global,
     engine: &Engine<W>,
     pass: &mut EnginePass,
     line: Line,
     outs: &mut Outs,
-    told: &mut Told,
+    reported: &mut Pending,
     steps: &mut Steps<L>,
     gate: &G,
     sink: &mut K,
@@ -162,37 +162,39 @@ fn tell_line<W: Timers, R: Wait, G: Gate, K: Sink, L: Ledger>(
     requires some { 0 < length engine.now.locks }
     requires ascends { Ascends engine.now.configs }
     requires room { (shard : ℕ) → 5 * length (configs_at engine.now shard) + 5 ≤ outs.old.room }
-    requires few { told.old.events < 200000 }
+    requires few { reported.old.events < 200000 }
     ensures of { IsOf engine.now pass.new.1 }
     ensures there { AllThere pass.new.1 }
     ensures kept { HasKept 1 pass.old pass.new }
     ensures went { OnOk result ((r : ℕ) → r < length engine.now.locks
         → Went pass.old pass.new (brought (length engine.now.locks) (happening engine.now.configs engine.now.pool line) r) r) }
-    ensures told { OnOk result (HasToldEvent engine.now (happening engine.now.configs engine.now.pool line) pass.old pass.new
-        (K.taken sink.old) (K.taken sink.new) told.old told.new) }
-    ensures events { OnOk result (told.new.events ≡ told.old.events + 1) }
-    ensures front { HasToldFront engine.now (happening engine.now.configs engine.now.pool line) pass.old pass.new
-        (K.taken sink.old) (K.taken sink.new) told.old }
+    ensures reported { OnOk result (HasReportedEvent engine.now (happening engine.now.configs engine.now.pool line) pass.old pass.new
+        (K.taken sink.old) (K.taken sink.new) reported.old reported.new) }
+    ensures events { OnOk result (reported.new.events ≡ reported.old.events + 1) }
+    ensures front { HasReportedFront engine.now (happening engine.now.configs engine.now.pool line) pass.old pass.new
+        (K.taken sink.old) (K.taken sink.new) reported.old }
     ensures stopped { IfErr result (IsEventStop engine.now pass.old pass.new) }
     ensures cause { IfErr result (HasStopCause (K.faults sink.old) (K.faults sink.new)) }
     ensures calm { OnOk result (K.faults sink.new ≡ K.faults sink.old) }
     ensures room { outs.new.room ≡ outs.old.room }
 {
     match shared_tick(&line, engine.shards()) {
-        Some(tick) => tell_parts(rt, alloc, engine, pass, tick, outs, told, steps, gate, sink),
-        None => tell_one(rt, engine, pass, line, outs, told, steps, gate, sink),
+        Some(tick) => report_parts(
+            rt, alloc, engine, pass, tick, outs, reported, steps, gate, sink,
+        ),
+        None => report_one(rt, engine, pass, line, outs, reported, steps, gate, sink),
     }
 }
 
-/// Reports the lines of a script one by one; `told` keeps what isn't written yet. Their list frees its memory while the journal grows.
-fn tell_lines<W: Timers, R: Wait, G: Gate, K: Sink, L: Ledger>(
+/// Reports the lines of a script one by one; `reported` keeps what isn't written yet. Their list frees its memory while the journal grows.
+fn report_lines<W: Timers, R: Wait, G: Gate, K: Sink, L: Ledger>(
     rt: &R,
     alloc: Global,
     engine: &Engine<W>,
     pass: &mut EnginePass,
     events: Vec<Line>,
     outs: Outs,
-    told: &mut Told,
+    reported: &mut Pending,
     gate: &G,
     sink: &mut K,
     blank: Blank,
@@ -202,18 +204,18 @@ fn tell_lines<W: Timers, R: Wait, G: Gate, K: Sink, L: Ledger>(
     requires ascends { Ascends engine.now.configs }
     requires limit { length events.items ≤ engine.now.limit }
     requires few { length events.items ≤ 200000 }
-    requires none { told.old.events ≡ 0 }
+    requires none { reported.old.events ≡ 0 }
     requires room { (shard : ℕ) → 5 * length (configs_at engine.now shard) + 5 ≤ outs.room }
     requires blank { IsBlankOf L.name L.parts blank.name blank.parts }
     ensures of { IsOf engine.now pass.new.1 }
     ensures there { AllThere pass.new.1 }
     ensures kept { HasKept (length events.items) pass.old pass.new }
     ensures brought { OnOk result (HasBrought engine.now (happenings engine.now.configs engine.now.pool events.items) pass.new) }
-    ensures told { OnOk result (AllSole (length engine.now.locks) pass.new → ToldUpTo (K.taken sink.old) (K.taken sink.new) told.old
-        told.new
+    ensures reported { OnOk result (AllSole (length engine.now.locks) pass.new
+        → ReportedUpTo (K.taken sink.old) (K.taken sink.new) reported.old reported.new
         (outcomes_on engine.now (happenings engine.now.configs engine.now.pool events.items)) []) }
-    ensures front { AllSole (length engine.now.locks) pass.new → TookFront (K.taken sink.old) (K.taken sink.new) (told.old.text
-        ++ lines_from (told.old.events + 1) (outcomes_on engine.now (happenings engine.now.configs engine.now.pool events.items))) }
+    ensures front { AllSole (length engine.now.locks) pass.new → TookFront (K.taken sink.old) (K.taken sink.new) (reported.old.text
+        ++ lines_from (reported.old.events + 1) (outcomes_on engine.now (happenings engine.now.configs engine.now.pool events.items))) }
     ensures stopped { IfErr result (IsStop engine.now pass.new) }
     ensures cause { IfErr result (HasStopCause (K.faults sink.old) (K.faults sink.new)) }
     ensures calm { OnOk result (K.faults sink.new ≡ K.faults sink.old) }
@@ -223,8 +225,8 @@ fn tell_lines<W: Timers, R: Wait, G: Gate, K: Sink, L: Ledger>(
     let mut left = events;
     left.reverse();
     'lines: while let Some(line) = next_of(&mut left) {
-        match tell_line(
-            rt, alloc, engine, pass, line, &mut outs, told, &mut steps, gate, sink,
+        match report_line(
+            rt, alloc, engine, pass, line, &mut outs, reported, &mut steps, gate, sink,
         ) {
             Ok(()) => {}
             Err(stop) => return Err(stop),
@@ -246,7 +248,7 @@ fn reason_of(stop: Stop) -> Fault
 }
 
 /// The report of a script's lines on a new engine, and the closed shards.
-fn tell_all<W: Timers, R: Wait, G: Gate, K: Sink>(
+fn report_all<W: Timers, R: Wait, G: Gate, K: Sink>(
     rt: &R,
     alloc: Global,
     engine: Engine<W>,
@@ -275,22 +277,22 @@ fn tell_all<W: Timers, R: Wait, G: Gate, K: Sink>(
     ensures calm { OnOk result (K.faults sink.new ≡ K.faults sink.old) }
 {
     let mut pass = pass;
-    let mut told = Told::new(alloc);
-    let end = tell_lines::<W, R, G, K, Brand>(
+    let mut reported = Pending::new(alloc);
+    let end = report_lines::<W, R, G, K, Brand>(
         rt,
         alloc,
         &engine,
         &mut pass,
         events,
         outs,
-        &mut told,
+        &mut reported,
         gate,
         sink,
         Blank::new(1),
     );
     let states = engine.close(pass, states);
     match end {
-        Ok(()) => match told.close(alloc, sink) {
+        Ok(()) => match reported.close(alloc, sink) {
             Ok(counts) => Ok((states, counts)),
             Err(fault) => Err(fault),
         },
@@ -333,7 +335,7 @@ pub(crate) fn report_to<W: Timers, R: Wait, G: Gate, K: Sink>(
     let Ok((engine, pass)) = opened(alloc, configs, pool, &events, shards) else {
         return Err(Fault::Memory);
     };
-    match tell_all(rt, alloc, engine, pass, states, events, outs, gate, sink) {
+    match report_all(rt, alloc, engine, pass, states, events, outs, gate, sink) {
         Ok((states, counts)) => Ok(Replayed {
             counts,
             up: up_all(&states),

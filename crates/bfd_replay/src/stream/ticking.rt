@@ -2,7 +2,7 @@
 ghost use Rattle.std.specs.Prelude.{ℕ, ◌≡◌, ◌≤◌, ◌<◌, ◌+◌, ◌*◌, [], ◌∷◌, IfErr, IfOk, OnOk, length, slice_index_or};
 ghost use Rattle.bfd_shard.specs.declared.entry.ShardEvent.TheVariants.{Tick as TickEvent};
 ghost use Rattle.bfd_engine.specs.Engines.{IsOf, AllThere, configs_at};
-ghost use Rattle.bfd_replay.specs.Turning.{HasKept, HaveToldTick, IsRefusal, Went};
+ghost use Rattle.bfd_replay.specs.Turning.{HasKept, HaveReportedTick, IsRefusal, Went};
 
 use crate::report::Part;
 use crate::stream::turning::turn;
@@ -37,7 +37,8 @@ pub(super) fn tick_parts<W: Timers, R: Wait, G: Gate, L: Ledger>(
     ensures kept { HasKept 1 pass.old pass.new }
     ensures went { OnOk result ((r : ℕ) → r < length engine.now.locks → Went pass.old pass.new (TickEvent tick ∷ []) r) }
     ensures long { IfOk result (λ parts. length parts.items ≡ length engine.now.locks + 1) }
-    ensures told { IfOk result (λ parts. HaveToldTick engine.now number tick (length engine.now.locks) pass.old pass.new parts.items) }
+    ensures reported { IfOk result (λ parts. HaveReportedTick engine.now number tick (length engine.now.locks)
+        pass.old pass.new parts.items) }
     ensures last { IfOk result (λ parts. slice_index_or parts.items (length engine.now.locks) [] ≡ []) }
     ensures refused { IfErr result (λ fault. IsRefusal fault engine.now pass.old pass.new) }
     ensures room { outs.new.room ≡ outs.old.room }
@@ -50,7 +51,7 @@ pub(super) fn tick_parts<W: Timers, R: Wait, G: Gate, L: Ledger>(
             Err(fault) => return Err(fault),
         }
         let mut part = Part::new(alloc);
-        let Ok(()) = part.tell_tick(number, outs.items()) else {
+        let Ok(()) = part.add_tick(number, outs.items()) else {
             return Err(EngineFault::Memory);
         };
         let Ok(()) = parts.push(part) else {

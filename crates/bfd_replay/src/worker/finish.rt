@@ -6,17 +6,17 @@ ghost use Rattle.bfd_replay.specs.Ends.{IsFine};
 ghost use Rattle.bfd_replay.specs.Jobs.{seen_as};
 
 use crate::report::Part;
-use crate::worker::passes::Told;
+use crate::worker::passes::WorkerParts;
 use bfd_engine::EngineFault;
 use std::alloc::{AllocError, Global};
 use std::mem;
 
 /// A worker's parts, which ended with them or when out of memory.
-fn parts_of(told: Told) -> Result<Vec<Part>, AllocError>
-    requires { IsFine (seen_as (λ parts. parts.items) told) }
-    ensures { IfOk result (λ parts. seen_as (λ parts. parts.items) told ≡ Ok parts.items) }
+fn parts_of(reported: WorkerParts) -> Result<Vec<Part>, AllocError>
+    requires { IsFine (seen_as (λ parts. parts.items) reported) }
+    ensures { IfOk result (λ parts. seen_as (λ parts. parts.items) reported ≡ Ok parts.items) }
 {
-    match told {
+    match reported {
         Ok(parts) => Ok(parts),
         Err(EngineFault::Memory) => Err(AllocError),
         Err(_) => unreachable!(),
@@ -24,15 +24,18 @@ fn parts_of(told: Told) -> Result<Vec<Part>, AllocError>
 }
 
 /// The parts of all workers, of which none stopped but when out of memory.
-pub(crate) fn all_told(alloc: Global, tolds: Vec<Told>) -> Result<Vec<Vec<Part>>, AllocError>
+pub(crate) fn all_parts(
+    alloc: Global,
+    worker_parts: Vec<WorkerParts>,
+) -> Result<Vec<Vec<Part>>, AllocError>
     requires { (i : ℕ) (end : Result (List (List Piece)) FaultIn)
-        → slice_get (map (seen_as (λ parts. parts.items)) tolds.items) i ≡ Some end → IsFine end }
-    ensures { IfOk result (λ all. map (seen_as (λ parts. parts.items)) tolds.items
+        → slice_get (map (seen_as (λ parts. parts.items)) worker_parts.items) i ≡ Some end → IsFine end }
+    ensures { IfOk result (λ all. map (seen_as (λ parts. parts.items)) worker_parts.items
         ≡ map Ok (map (λ parts. parts.items) all.items)) }
 {
     let mut all = Vec::new(alloc);
-    for told in tolds {
-        let parts = parts_of(told)?;
+    for reported in worker_parts {
+        let parts = parts_of(reported)?;
         all.push(parts)?;
     }
     Ok(all)

@@ -27,7 +27,7 @@ use std::thread::{Threads, join_mut};
 pub(crate) struct Job {
     pub(crate) pass: EnginePass,
     pub(crate) queues: Vec<Queue>,
-    pub(crate) told: Result<Vec<Part>, EngineFault>,
+    pub(crate) reported: Result<Vec<Part>, EngineFault>,
 }
 
 impl Model for Job {
@@ -39,7 +39,7 @@ impl Model for Job {
     ghost view = { λ j. record {
       pass = j.pass;
       queues = j.queues.items;
-      told = seen_as (λ parts. parts.items) j.told;
+      reported = seen_as (λ parts. parts.items) j.reported;
     } };
 }
 
@@ -82,7 +82,7 @@ fn work<W: Timers, R: Wait, G: Gate>(
     ensures { HasWorkedOn engine.now job.old job.new }
 {
     let queues = mem::replace(&mut job.queues, Vec::new(alloc));
-    job.told = run::<W, R, G, Brand>(
+    job.reported = run::<W, R, G, Brand>(
         rt,
         alloc,
         engine,

@@ -33,14 +33,14 @@ pub(crate) fn deal_jobs<W: Timers>(
         jobs.push(Job {
             pass,
             queues: own,
-            told: Ok(Vec::new(alloc)),
+            reported: Ok(Vec::new(alloc)),
         })?;
     }
     Ok(jobs)
 }
 
 /// What each worker reported, or why it stopped.
-pub(crate) type Told = Result<Vec<Part>, EngineFault>;
+pub(crate) type WorkerParts = Result<Vec<Part>, EngineFault>;
 
 /// Joins the workers' passes into that of caller 0, and returns what each reported.
 pub(crate) fn join_all<W: Timers>(
@@ -48,20 +48,20 @@ pub(crate) fn join_all<W: Timers>(
     engine: &Engine<W>,
     first: &mut EnginePass,
     jobs: Vec<Job>,
-) -> Result<Vec<Told>, AllocError>
+) -> Result<Vec<WorkerParts>, AllocError>
     requires of { IsOf engine.now first.old.1 }
     requires there { AllThere first.old.1 }
     requires first { first.old.0 ≡ 0 }
     requires others { (i : ℕ) (w : Work) → slice_get jobs.items i ≡ Some w → IsJoining engine.now 200000 w }
     ensures joined { IfOk result (λ _. AllJobsJoined engine.now 200000 first.old first.new jobs.items) }
-    ensures told { IfOk result (λ tolds. map (seen_as (λ parts. parts.items)) tolds.items
-        ≡ map (λ w. w.told) jobs.items) }
+    ensures reported { IfOk result (λ worker_parts. map (seen_as (λ parts. parts.items)) worker_parts.items
+        ≡ map (λ w. w.reported) jobs.items) }
 {
-    let mut tolds = Vec::new(alloc);
+    let mut worker_parts = Vec::new(alloc);
     for job in jobs {
-        let Job { pass, told, .. } = job;
+        let Job { pass, reported, .. } = job;
         engine.join(first, pass);
-        tolds.push(told)?;
+        worker_parts.push(reported)?;
     }
-    Ok(tolds)
+    Ok(worker_parts)
 }

@@ -2,12 +2,12 @@
 ghost use Rattle.std.specs.Prelude.{ℕ, ◌≡◌, ◌≤◌, ◌<◌, ◌+◌, ◌*◌, [], IfOk, length, map, slice_index_or};
 ghost use Rattle.bfd_engine.specs.Engines.{configs_at};
 ghost use Rattle.bfd_engine.specs.Opening.{IsNewPass};
-ghost use Rattle.bfd_replay.specs.Ends.{AreStates, AreTold};
+ghost use Rattle.bfd_replay.specs.Ends.{AreStates, AreReported};
 ghost use Rattle.bfd_replay.specs.Working.{AreMet};
 
 use crate::plan::Queue;
 use crate::report::Part;
-use crate::worker::finish::all_told;
+use crate::worker::finish::all_parts;
 use crate::worker::jobs::work_all;
 use crate::worker::passes::{deal_jobs, join_all};
 use bfd_edge::Gate;
@@ -40,15 +40,15 @@ pub(crate) fn run_all<W: Timers + Send, R: Threads + Wait + Sync, G: Gate + Sync
     requires short { (s : ℕ) → length (slice_index_or queues.items s []) ≤ engine.limit }
     requires small { engine.limit ≤ 200000 }
     ensures states { IfOk result (λ r. AreStates engine queues.items workers r.0.items) }
-    ensures told { IfOk result (λ r. AreTold engine queues.items
+    ensures reported { IfOk result (λ r. AreReported engine queues.items
         workers (map (λ parts. parts.items) r.1.items)) }
 {
     let states = Vec::with_capacity(alloc, engine.shards() as usize)?;
     let mut first = first;
     let mut jobs = deal_jobs(alloc, &engine, &mut first, queues, workers)?;
     work_all(rt, alloc, &engine, &mut jobs, room, gate);
-    let tolds = join_all(alloc, &engine, &mut first, jobs)?;
+    let worker_parts = join_all(alloc, &engine, &mut first, jobs)?;
     let states = engine.close(first, states);
-    let all = all_told(alloc, tolds)?;
+    let all = all_parts(alloc, worker_parts)?;
     Ok((states, all))
 }

@@ -6,7 +6,7 @@ ghost use Rattle.bfd_engine.specs.Engines.{IsOf, AllThere, configs_at};
 ghost use Rattle.bfd_engine.specs.Calls.{seen_at, taken_at};
 ghost use Rattle.bfd_engine.specs.Turned.{room_in};
 ghost use Rattle.bfd_replay.specs.Pieces.{event_pieces};
-ghost use Rattle.bfd_replay.specs.Working.{AreMet, HasDoneAt, HasFinished, HasLeft, HasStopped, HasTold, HasUsedAt, IsElsewhere, IsIdle, IsWorkerReady, IsTurnRefused, IsStopAt, is_tick};
+ghost use Rattle.bfd_replay.specs.Working.{AreMet, HasDoneAt, HasFinished, HasLeft, HasStopped, HasReported, HasUsedAt, IsElsewhere, IsIdle, IsWorkerReady, IsTurnRefused, IsStopAt, is_tick};
 
 use crate::plan::Queue;
 use crate::report::{Numbered, Part};
@@ -32,7 +32,7 @@ fn is_for_all(event: &ShardEvent) -> bool
 }
 
 /// Reports what an event gave, by its kind.
-fn tell(
+fn append_outcome(
     part: &mut Part,
     number: u64,
     every: bool,
@@ -44,9 +44,9 @@ fn tell(
         ++ event_pieces number event (record { items = outs.now; answer = answer.now })) }
 {
     if every {
-        part.tell_tick(number, outs)
+        part.add_tick(number, outs)
     } else {
-        part.tell_event(number, outs, answer)
+        part.add_event(number, outs, answer)
     }
 }
 
@@ -71,7 +71,7 @@ fn one_event<W: Timers, R: Wait, G: Gate, L: Ledger>(
     ensures there { AllThere pass.new.1 }
     ensures elsewhere { IsElsewhere pass.old pass.new shard }
     ensures taken { taken_at pass.new shard ≤ taken_at pass.old shard + 1 }
-    ensures told { OnOk result (HasTold engine.now shard event pass.old pass.new part.old part.new) }
+    ensures reported { OnOk result (HasReported engine.now shard event pass.old pass.new part.old part.new) }
     ensures refused { IfErr result (λ fault. IsTurnRefused fault engine.now shard pass.old pass.new) }
     ensures room { outs.new.room ≡ outs.old.room }
 {
@@ -83,7 +83,7 @@ fn one_event<W: Timers, R: Wait, G: Gate, L: Ledger>(
     let outcome = engine.turn_on(rt, pass, shard, event, outs, steps);
     gate.after(worker, number);
     let answer = outcome?;
-    match tell(part, number, every, outs.items(), &answer) {
+    match append_outcome(part, number, every, outs.items(), &answer) {
         Ok(()) => Ok(()),
         Err(_) => Err(EngineFault::Memory),
     }

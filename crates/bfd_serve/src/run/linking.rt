@@ -11,12 +11,12 @@ use std::alloc::Global;
 /// Shuts the link of caller 0, and then those of the workers, each by the number by which it was opened.
 pub(crate) fn shut_all<P: Ports>(ports: &mut P, own: P::Link, links: Vec<P::Link>)
     requires few { length links.items ≤ 64 }
-    requires opened { (number : ℕ) → number ≤ length links.items → (P.told ports.old).opened number ≡ true }
-    requires theirs { AreTheirs P.Link.told own links.items }
-    ensures opened { (number : ℕ) → (P.told ports.new).opened number ≡ (P.told ports.old).opened number }
-    ensures faults { (P.told ports.new).faults ≡ (P.told ports.old).faults }
+    requires opened { (number : ℕ) → number ≤ length links.items → (P.observed ports.old).opened number ≡ true }
+    requires theirs { AreTheirs P.Link.observed own links.items }
+    ensures opened { (number : ℕ) → (P.observed ports.new).opened number ≡ (P.observed ports.old).opened number }
+    ensures faults { (P.observed ports.new).faults ≡ (P.observed ports.old).faults }
     ensures shut { (number : ℕ) → number ≤ length links.items
-        → (P.told ports.new).shut number ≡ Some (P.Link.told (slice_index_or (own ∷ links.items) number own)) }
+        → (P.observed ports.new).shut number ≡ Some (P.Link.observed (slice_index_or (own ∷ links.items) number own)) }
 {
     ports.shut(0, own);
     let mut number = 1;
@@ -33,13 +33,13 @@ pub(crate) fn open_all<P: Ports>(
     ports: &mut P,
     workers: u32,
 ) -> Result<(P::Link, Vec<P::Link>), Refused>
-    requires new { (number : ℕ) → (P.told ports.old).opened number ≡ false }
+    requires new { (number : ℕ) → (P.observed ports.old).opened number ≡ false }
     requires few { workers ≤ 64 }
-    ensures own { IfOk result (λ r. IsNewLink (P.Link.told r.0)) }
-    ensures links { IfOk result (λ r. All (IsUncalled P.Link.told) r.1.items) }
-    ensures theirs { IfOk result (λ r. AreTheirs P.Link.told r.0 r.1.items) }
-    ensures opened { MatchResult result (λ r. IsOpenTo workers (P.told ports.old) (P.told ports.new))
-        (λ refused. IsUnopened refused (P.told ports.old) (P.told ports.new)) }
+    ensures own { IfOk result (λ r. IsNewLink (P.Link.observed r.0)) }
+    ensures links { IfOk result (λ r. All (IsUncalled P.Link.observed) r.1.items) }
+    ensures theirs { IfOk result (λ r. AreTheirs P.Link.observed r.0 r.1.items) }
+    ensures opened { MatchResult result (λ r. IsOpenTo workers (P.observed ports.old) (P.observed ports.new))
+        (λ refused. IsUnopened refused (P.observed ports.old) (P.observed ports.new)) }
     ensures long { IfOk result (λ r. length r.1.items ≡ workers) }
 {
     let own = match ports.open(0) {

@@ -6,7 +6,7 @@ ghost use Rattle.bfd_engine.specs.Opening.{IsNewPass};
 ghost use Rattle.bfd_serve.specs.Jobs.{IsOpen};
 ghost use Rattle.bfd_serve.specs.Finishes.{IsUnspent};
 ghost use Rattle.bfd_serve.specs.Linking.{AreTheirs};
-ghost use Rattle.bfd_serve.specs.Runs.{AreClosedShards, HaveRun, history_at, told_on_link};
+ghost use Rattle.bfd_serve.specs.Runs.{AreClosedShards, HaveRun, history_at, observed_on_link};
 
 use crate::{End, Limits, Served, serve};
 use bfd_edge::{Gate, Link, Ticker};
@@ -57,23 +57,23 @@ pub(crate) fn run_all<
 ) -> (Vec<L>, Result<Closed<W>, AllocError>)
     requires new { IsNewPass engine first }
     requires few { length links.items ≤ 64 }
-    requires theirs { AreTheirs L.told own.old links.items }
-    requires clock { (T.told ticker.old).over ≡ false }
-    requires open { All (IsOpen L.told) links.items }
+    requires theirs { AreTheirs L.observed own.old links.items }
+    requires clock { (T.observed ticker.old).over ≡ false }
+    requires open { All (IsOpen L.observed) links.items }
     requires turns { limits.turns ≤ 1000000000 }
     requires ticks { limits.ticks ≤ 1000000000 }
     requires orders { length orders.now ≤ 200000 }
     ensures back { length result.0.items ≡ length links.items }
-    ensures theirs { AreTheirs L.told own.new result.0.items }
+    ensures theirs { AreTheirs L.observed own.new result.0.items }
     ensures run { IfOk result.1 (λ closed. HaveRun engine (history_at closed.states.items)
-        orders.now (length links.items) limits (told_on_link L.told own.old links.items)
-        (told_on_link L.told own.new result.0.items) (T.told ticker.old) (T.told ticker.new)
+        orders.now (length links.items) limits (observed_on_link L.observed own.old links.items)
+        (observed_on_link L.observed own.new result.0.items) (T.observed ticker.old) (T.observed ticker.new)
         closed.ends.items closed.lost) }
     ensures closed { IfOk result.1 (λ closed. AreClosedShards engine closed.states.items) }
     ensures unspent { IfOk result.1 (λ closed. All IsUnspent closed.ends.items) }
     ensures few_ends { IfOk result.1 (λ closed. length closed.ends.items ≤ 65) }
-    ensures idle { OnErr result.1 ((result.0.items ≡ links.items) × (L.told own.new ≡ L.told own.old)
-        × (T.told ticker.new ≡ T.told ticker.old)) }
+    ensures idle { OnErr result.1 ((result.0.items ≡ links.items) × (L.observed own.new ≡ L.observed own.old)
+        × (T.observed ticker.new ≡ T.observed ticker.old)) }
 {
     let Ok(states) = Vec::with_capacity(alloc, engine.shards() as usize) else {
         return (links, Err(AllocError));

@@ -70,14 +70,14 @@ where
     requires journal { 0 < journal }
     requires turns { limits.turns ≤ 1000000000 }
     requires ticks { limits.ticks ≤ 1000000000 }
-    requires new { (number : ℕ) → (P.told ports.old).opened number ≡ false }
-    requires clock { (T.told ticker.old).over ≡ false }
-    ensures run { IfOk result (λ run. HasRun script shards workers journal limits (P.told ports.new)
-        (T.told ticker.old) (T.told ticker.new) run.states.items run.text.items run.lost run.finish) }
-    ensures opened { IfOk result (λ _. IsOpenTo workers (P.told ports.old) (P.told ports.new)) }
-    ensures shut { AreShut (P.told ports.new) }
-    ensures refused { IfErr result (λ refused. IsLinkRefused refused (P.told ports.old) (P.told ports.new)
-        (T.told ticker.old) (T.told ticker.new)) }
+    requires new { (number : ℕ) → (P.observed ports.old).opened number ≡ false }
+    requires clock { (T.observed ticker.old).over ≡ false }
+    ensures run { IfOk result (λ run. HasRun script shards workers journal limits (P.observed ports.new)
+        (T.observed ticker.old) (T.observed ticker.new) run.states.items run.text.items run.lost run.finish) }
+    ensures opened { IfOk result (λ _. IsOpenTo workers (P.observed ports.old) (P.observed ports.new)) }
+    ensures shut { AreShut (P.observed ports.new) }
+    ensures refused { IfErr result (λ refused. IsLinkRefused refused (P.observed ports.old) (P.observed ports.new)
+        (T.observed ticker.old) (T.observed ticker.new)) }
 {
     let Script {
         configs,

@@ -6,7 +6,7 @@ ghost use Rattle.bfd_session.specs.Rows.{AreFit};
 ghost use Rattle.bfd_serve.specs.Served.{shard_history};
 ghost use Rattle.bfd_serve.specs.Served as definition;
 
-use crate::served_text::telling::tell_entries;
+use crate::served_text::entry_lines::write_entries;
 use bfd_rules::Outs;
 use bfd_session::SessionConfig;
 use bfd_shard::ShardState;
@@ -21,7 +21,7 @@ fn shard_line(alloc: Global, number: u64) -> Result<String, AllocError>
 }
 
 /// Appends the text of the shard of this number, whose sessions have these configurations. Gives how many packets its entries sent.
-fn tell_shard<W: Timers>(
+fn write_shard<W: Timers>(
     alloc: Global,
     number: u64,
     configs: Vec<SessionConfig>,
@@ -41,7 +41,7 @@ fn tell_shard<W: Timers>(
     let mut shard = ShardState::<W>::make(alloc, configs, journal.len())?;
     let line = shard_line(alloc, number)?;
     text.extend_from_slice(line.as_bytes())?;
-    let sent = tell_entries(alloc, &mut shard, journal, &mut outs, text)?;
+    let sent = write_entries(alloc, &mut shard, journal, &mut outs, text)?;
     Ok(sent)
 }
 
@@ -70,7 +70,7 @@ pub fn served<W: Timers>(
     let mut shard = 0;
     for configs in parts {
         let state = &states[shard];
-        let sent = tell_shard(alloc, shard as u64, configs, state, &mut text)?;
+        let sent = write_shard(alloc, shard as u64, configs, state, &mut text)?;
         txs += sent;
         entries += state.journal().len() as u64;
         shard += 1;

@@ -35,7 +35,7 @@ fn turn_head(alloc: Global, number: u64, caller: u32) -> Result<String, AllocErr
 }
 
 /// Appends the line of an entry's turn. `discr` names the session of an own event.
-pub(crate) fn tell_turn(
+pub(crate) fn write_turn(
     number: u64,
     discr: u32,
     entry: &Entry,

@@ -5,7 +5,7 @@ ghost use Rattle.bfd_edge.specs.Faults.{Rose};
 ghost use Rattle.bfdd.specs.Answers.{IsAnswer};
 ghost use Rattle.bfdd.specs.Outside.{ConsumesAtMost};
 ghost use Rattle.bfdd.specs.Serving.{edges_of};
-ghost use Rattle.bfdd.specs.Tells.{Tells, TellsBytes};
+ghost use Rattle.bfdd.specs.Reports.{Reports, ReportsBytes};
 ghost use Rattle.bfdd.specs.Text.{most_bytes, wanted_of};
 ghost use Rattle.bfdd.specs.Words.{reads, serves};
 ghost use Rattle.bfd_serve.specs.Linking.{AreShut};
@@ -33,7 +33,7 @@ fn decided_answer<R: Threads + Wait + Sync, G: Gate + Sync, S: Source>(
     requires ranges { IsJob job.now }
     requires closed { serves job.now ≡ false }
     ensures answer { IfOk result (λ answer. IfSome (wanted_of job.now (S.left source.old)) (λ w. answer ≡ w)) }
-    ensures tells { IfOk result (TellsBytes job.now (S.left source.old) (S.left source.new)) }
+    ensures reports { IfOk result (ReportsBytes job.now (S.left source.old) (S.left source.new)) }
     ensures sound { IfOk result IsAnswer }
     ensures end { IfOk result (λ answer. answer.status ≡ Status.Done → reads job.now ≡ true
         → IsAtEnd (S.left source.new)) }
@@ -59,7 +59,7 @@ fn decided_answer<R: Threads + Wait + Sync, G: Gate + Sync, S: Source>(
 /// What the job has to write, and how a run of it is to end, after it has read what it reads: no more than 67,108,865 bytes. Ports and
 /// ticker are `serve`'s alone, and every link that is opened is shut. The refusals: Failed where the source failed, and then no link was
 /// opened and no tick asked for; Memory, at any place.
-#[tactic(auto, using(crate::proofs::Telling::closed_tells))]
+#[tactic(auto, using(crate::proofs::RunReport::closed_reports))]
 pub fn answer_to_job<
     R: Threads + Wait + Sync,
     G: Gate + Sync,
@@ -78,11 +78,11 @@ pub fn answer_to_job<
 where
     P::Link: Send,
     requires ranges { IsJob job.now }
-    requires new { (number : ℕ) → (P.told ports.old).opened number ≡ false }
-    requires clock { (T.told ticker.old).over ≡ false }
+    requires new { (number : ℕ) → (P.observed ports.old).opened number ≡ false }
+    requires clock { (T.observed ticker.old).over ≡ false }
     ensures answer { IfOk result (λ answer. IfSome (wanted_of job.now (S.left source.old)) (λ w. answer ≡ w)) }
-    ensures tells { IfOk result (Tells job.now (S.left source.old) (S.left source.new)
-        (edges_of (P.told ports.old) (T.told ticker.old)) (edges_of (P.told ports.new) (T.told ticker.new))) }
+    ensures reports { IfOk result (Reports job.now (S.left source.old) (S.left source.new)
+        (edges_of (P.observed ports.old) (T.observed ticker.old)) (edges_of (P.observed ports.new) (T.observed ticker.new))) }
     ensures sound { IfOk result IsAnswer }
     ensures end { IfOk result (λ answer. answer.status ≡ Status.Done → reads job.now ≡ true
         → IsAtEnd (S.left source.new)) }
@@ -91,8 +91,8 @@ where
     ensures failed { IsErrOf result Fault.Failed
         → (reads job.now ≡ true) × Rose (S.faults source.old) (S.faults source.new) }
     ensures unopened { IsErrOf result Fault.Failed
-        → edges_of (P.told ports.new) (T.told ticker.new) ≡ edges_of (P.told ports.old) (T.told ticker.old) }
-    ensures shut { AreShut (P.told ports.new) }
+        → edges_of (P.observed ports.new) (T.observed ticker.new) ≡ edges_of (P.observed ports.old) (T.observed ticker.old) }
+    ensures shut { AreShut (P.observed ports.new) }
     ensures at_most { ConsumesAtMost (most_bytes + 1) (S.left source.old) (S.left source.new) }
     ensures calm { IfOk result (λ answer. S.faults source.new ≡ S.faults source.old) }
     ensures calm_memory { IsErrOf result Fault.Memory → S.faults source.new ≡ S.faults source.old }

@@ -8,7 +8,7 @@ ghost use Rattle.bfdd.specs.Ranges.{IsJob};
 ghost use Rattle.bfdd.specs.Answers.{IsAnswer};
 ghost use Rattle.bfdd.specs.Outside.{ConsumesAtMost};
 ghost use Rattle.bfdd.specs.Serving.{Comes, IsLive, IsUnread, edges_of, job_by, status_of};
-ghost use Rattle.bfdd.specs.Tells.{Tells};
+ghost use Rattle.bfdd.specs.Reports.{Reports};
 ghost use Rattle.bfdd.specs.Text.{most_bytes, wanted_of};
 
 use crate::job::answer::Answer;
@@ -70,13 +70,13 @@ where
     P::Link: Send,
     requires script { IsScript script }
     requires ranges { IsJob (job_by numbers) }
-    requires new { (number : ℕ) → (P.told ports.old).opened number ≡ false }
-    requires clock { (T.told ticker.old).over ≡ false }
-    ensures comes { IfOk result (Comes (job_by numbers) script (edges_of (P.told ports.old) (T.told ticker.old))
-        (edges_of (P.told ports.new) (T.told ticker.new))) }
+    requires new { (number : ℕ) → (P.observed ports.old).opened number ≡ false }
+    requires clock { (T.observed ticker.old).over ≡ false }
+    ensures comes { IfOk result (Comes (job_by numbers) script (edges_of (P.observed ports.old) (T.observed ticker.old))
+        (edges_of (P.observed ports.new) (T.observed ticker.new))) }
     ensures sound { IfOk result IsAnswer }
-    ensures shut { AreShut (P.told ports.new) }
-    ensures calm { IfErr result (λ _. (P.told ports.new).faults ≡ (P.told ports.old).faults) }
+    ensures shut { AreShut (P.observed ports.new) }
+    ensures calm { IfErr result (λ _. (P.observed ports.new).faults ≡ (P.observed ports.old).faults) }
 {
     let Numbers {
         hands,
@@ -125,13 +125,13 @@ where
     P::Link: Send,
     requires script { IsScript script }
     requires ranges { IsJob (job_by numbers) }
-    requires new { (number : ℕ) → (P.told ports.old).opened number ≡ false }
-    requires clock { (T.told ticker.old).over ≡ false }
-    ensures comes { IfOk result (Comes (job_by numbers) script (edges_of (P.told ports.old) (T.told ticker.old))
-        (edges_of (P.told ports.new) (T.told ticker.new))) }
+    requires new { (number : ℕ) → (P.observed ports.old).opened number ≡ false }
+    requires clock { (T.observed ticker.old).over ≡ false }
+    ensures comes { IfOk result (Comes (job_by numbers) script (edges_of (P.observed ports.old) (T.observed ticker.old))
+        (edges_of (P.observed ports.new) (T.observed ticker.new))) }
     ensures sound { IfOk result IsAnswer }
-    ensures shut { AreShut (P.told ports.new) }
-    ensures calm { IfErr result (λ _. (P.told ports.new).faults ≡ (P.told ports.old).faults) }
+    ensures shut { AreShut (P.observed ports.new) }
+    ensures calm { IfErr result (λ _. (P.observed ports.new).faults ≡ (P.observed ports.old).faults) }
 {
     match numbers.hands.timers {
         Form::Hashed => serve_with::<HashedWheel, R, G, P, T>(
@@ -147,7 +147,7 @@ where
 #[derive(Drop)]
 pub(crate) enum Unread {
     /// The text is no script, or is too large: what is to be reported of that.
-    Told(Answer),
+    Reported(Answer),
 
     /// The source failed.
     Failed,
@@ -167,7 +167,7 @@ pub(crate) fn live_script<S: Source>(alloc: Global, source: &mut S) -> Result<Sc
 {
     let bytes = match read_all(alloc, source) {
         Ok(bytes) => bytes,
-        Err(InputFault::TooLarge) => return Err(Unread::Told(Answer::bare(
+        Err(InputFault::TooLarge) => return Err(Unread::Reported(Answer::bare(
             alloc,
             Status::TooLarge,
         ))),
@@ -178,7 +178,7 @@ pub(crate) fn live_script<S: Source>(alloc: Global, source: &mut S) -> Result<Sc
         Ok(script) => Ok(script),
         Err(ScriptFault::Memory) => Err(Unread::Memory),
         Err(ScriptFault::Bad(bad)) => match complain(alloc, bad) {
-            Ok(answer) => Err(Unread::Told(answer)),
+            Ok(answer) => Err(Unread::Reported(answer)),
             Err(_) => Err(Unread::Memory),
         },
     }
@@ -203,17 +203,17 @@ pub(crate) fn serve_answer<
 where
     P::Link: Send,
     requires ranges { IsJob (job_by numbers) }
-    requires new { (number : ℕ) → (P.told ports.old).opened number ≡ false }
-    requires clock { (T.told ticker.old).over ≡ false }
+    requires new { (number : ℕ) → (P.observed ports.old).opened number ≡ false }
+    requires clock { (T.observed ticker.old).over ≡ false }
     ensures answer { IfOk result (λ answer. IfSome (wanted_of (job_by numbers) (S.left source.old)) (λ w. answer ≡ w)) }
-    ensures tells { IfOk result (Tells (job_by numbers) (S.left source.old) (S.left source.new)
-        (edges_of (P.told ports.old) (T.told ticker.old)) (edges_of (P.told ports.new) (T.told ticker.new))) }
+    ensures reports { IfOk result (Reports (job_by numbers) (S.left source.old) (S.left source.new)
+        (edges_of (P.observed ports.old) (T.observed ticker.old)) (edges_of (P.observed ports.new) (T.observed ticker.new))) }
     ensures sound { IfOk result IsAnswer }
     ensures end { IfOk result (λ answer. answer.status ≡ Status.Done → IsAtEnd (S.left source.new)) }
     ensures failed { IsErrOf result Fault.Failed → Rose (S.faults source.old) (S.faults source.new) }
     ensures unopened { IsErrOf result Fault.Failed
-        → edges_of (P.told ports.new) (T.told ticker.new) ≡ edges_of (P.told ports.old) (T.told ticker.old) }
-    ensures shut { AreShut (P.told ports.new) }
+        → edges_of (P.observed ports.new) (T.observed ticker.new) ≡ edges_of (P.observed ports.old) (T.observed ticker.old) }
+    ensures shut { AreShut (P.observed ports.new) }
     ensures at_most { ConsumesAtMost (most_bytes + 1) (S.left source.old) (S.left source.new) }
     ensures calm { IfOk result (λ answer. S.faults source.new ≡ S.faults source.old) }
     ensures calm_memory { IsErrOf result Fault.Memory → S.faults source.new ≡ S.faults source.old }
@@ -223,7 +223,7 @@ where
             Ok(answer) => Ok(answer),
             Err(_) => Err(Fault::Memory),
         },
-        Err(Unread::Told(answer)) => Ok(answer),
+        Err(Unread::Reported(answer)) => Ok(answer),
         Err(Unread::Failed) => Err(Fault::Failed),
         Err(Unread::Memory) => Err(Fault::Memory),
     }

@@ -8,7 +8,7 @@ ghost use Rattle.bfd_engine.specs.Reads.{AreGiven, HasRead};
 ghost use Rattle.bfd_turn.specs.Lists.{Begins};
 ghost use Rattle.bfd_watch.specs.Watching.{Watching as WatchingIn, watching};
 ghost use Rattle.bfd_replay.specs.Turning.{HasKept, Went};
-ghost use Rattle.bfdd.specs.Following.{AreBehind, AreWatched, IsLeft, IsUntaken, merged_of, news, told_after};
+ghost use Rattle.bfdd.specs.Following.{AreBehind, AreWatched, IsLeft, IsUntaken, merged_of, news, reported_after};
 
 use crate::watched_text::merging::{merge, renumbered};
 use bfd_engine::{Engine, EngineFault, EnginePass};
@@ -70,14 +70,14 @@ fn take_all<W: Timers>(
 ) -> Result<Vec<Change>, WatchFault>
     requires { AreGiven watch.old.configs entries.items }
     ensures taken { OnOk result (watch.new ≡ record watch.old { entries = watch.old.entries ++ entries.items }) }
-    ensures told { IfOk result (λ told. told.items ≡ told_after watch.old entries.items) }
+    ensures reported { IfOk result (λ reported. reported.items ≡ reported_after watch.old entries.items) }
     ensures left { IfErr result (λ fault. IsLeft fault watch.old entries.items) }
 {
-    let mut told = Vec::new(alloc);
+    let mut reported = Vec::new(alloc);
     for entry in entries {
-        watch.take(entry, &mut told)?;
+        watch.take(entry, &mut reported)?;
     }
-    Ok(told)
+    Ok(reported)
 }
 
 /// What a shard's watch reports of the entries that it hasn't accepted yet, as those of the event of this number.
@@ -99,18 +99,18 @@ fn poll<W: Timers, R: Wait>(
     ensures there { AllThere pass.new.1 }
     ensures read { HasRead pass.old pass.new shard }
     ensures taken { OnOk result (watch.new ≡ record watch.old { entries = seen_at pass.new shard }) }
-    ensures told { IfOk result (λ told. told.items ≡ news number watch.old (seen_at pass.new shard)) }
+    ensures reported { IfOk result (λ reported. reported.items ≡ news number watch.old (seen_at pass.new shard)) }
     ensures untaken { IfErr result (λ fault. IsUntaken fault engine.now watch.old.limit shard pass.new) }
 {
     let mut entries = Vec::new(alloc);
     engine.journal_from(rt, alloc, pass, shard, watch.taken(), &mut entries)?;
-    let told = match take_all(alloc, watch, entries) {
-        Ok(told) => told,
+    let reported = match take_all(alloc, watch, entries) {
+        Ok(reported) => reported,
         Err(WatchFault::Full(count)) => return Err(EngineFault::Full(shard, count)),
         Err(WatchFault::Memory) => return Err(EngineFault::Memory),
     };
-    match renumbered(alloc, number, &told) {
-        Ok(told) => Ok(told),
+    match renumbered(alloc, number, &reported) {
+        Ok(reported) => Ok(reported),
         Err(_) => Err(EngineFault::Memory),
     }
 }
@@ -133,22 +133,22 @@ pub(crate) fn poll_all<W: Timers, R: Wait>(
     ensures kept { HasKept 1 pass.old pass.new }
     ensures went { (r : ℕ) → r < length engine.now.locks → Went pass.old pass.new [] r }
     ensures watched { OnOk result (AreWatched engine.now engine.now.limit pass.new watches.new.items) }
-    ensures told { IfOk result (λ told. (d : WatchingIn) → told.items ≡ merged_of (length engine.now.locks)
+    ensures reported { IfOk result (λ reported. (d : WatchingIn) → reported.items ≡ merged_of (length engine.now.locks)
         (λ r. news number (slice_index_or watches.old.items r d) (seen_at pass.new r))) }
     ensures untaken { IfErr result (λ fault. (r : ℕ) × (r < length engine.now.locks) × IsUntaken fault engine.now engine.now.limit r
         pass.new) }
 {
-    let mut told = Vec::new(alloc);
+    let mut reported = Vec::new(alloc);
     for shard in 0..engine.shards() {
         let watch = &mut watches[shard as usize];
         let more = match poll(rt, alloc, engine, pass, shard, watch, number) {
             Ok(more) => more,
             Err(fault) => return Err(fault),
         };
-        told = match merge(alloc, &told, &more) {
+        reported = match merge(alloc, &reported, &more) {
             Ok(all) => all,
             Err(_) => return Err(EngineFault::Memory),
         };
     }
-    Ok(told)
+    Ok(reported)
 }

@@ -2,7 +2,7 @@
 use Rattle.std.proofs.Common.{rules, arith, subst, sym, suc, ◌≡◌, ◌+◌, ℕ, List, ◌∷◌, length}
 use Rattle.std.specs.Prelude.{true, false, is_some}
 use Rattle.bfd_c.specs.declared.many.Arrived.{Arrived}
-use Rattle.bfd_c.specs.declared.telling.Answered.{Answered}
+use Rattle.bfd_c.specs.declared.structs.Answered.{Answered}
 use Rattle.bfd_c.specs.Engines.{asked}
 use Rattle.bfd_c.specs.Many.{Handed, handed, line_of_arrived, none_handed, one_before}
 use Rattle.bfd_c.proofs.Handing.{stopped, went_on}

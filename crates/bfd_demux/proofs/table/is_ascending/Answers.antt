@@ -2,8 +2,8 @@ use Rattle.bfd_demux.proofs.Common.{arith, sym, ap, ◌∙◌, ◌<◌, ◌-◌,
 use Rattle.bfd_demux.proofs.Ascending.{one_longer}
 use Rattle.bfd_demux.proofs.table.is_ascending.Goals as goal
 
-pub returns-then-not-is_lt-clause-told : goal.returns-then-not-is_lt-clause-told
-returns-then-not-is_lt-clause-told g c up =
+pub returns-then-not-is_lt-clause-reported : goal.returns-then-not-is_lt-clause-reported
+returns-then-not-is_lt-clause-reported g c up =
     let within : c.loop-place.place < length c.args.entries.now = omega arith in
     let x = c.index-entries-place.result in
     let y = c.index-entries-place-in-loop-place in

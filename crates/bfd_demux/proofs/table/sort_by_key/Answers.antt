@@ -16,5 +16,5 @@ pub returns-clause-once : goal.returns-clause-once
 returns-clause-once g c risen = keys_once-IsPermutation_back g.K.Ord.cmp c.sort_unstable_by_key.ensures.permutation
     (rw (← c.deref-2.ensures.value) (once_ascending g.met.K.Ord.total _ (c.is_ascending-2.ensures.rising risen)))
 
-pub returns-clause-told : goal.returns-clause-told
-returns-clause-told g c once = c.is_ascending-2.ensures.told (rw c.deref-2.ensures.value (returns-clause-ascending g c once))
+pub returns-clause-reported : goal.returns-clause-reported
+returns-clause-reported g c once = c.is_ascending-2.ensures.reported (rw c.deref-2.ensures.value (returns-clause-ascending g c once))

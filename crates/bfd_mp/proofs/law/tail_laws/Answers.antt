@@ -1,5 +1,5 @@
 -- Each law is a lemma.
-use Rattle.bfd_mp.proofs.Rest.{tail_settle_rests, tail_tells_nothing, tail_draws_nothing}
+use Rattle.bfd_mp.proofs.Rest.{tail_settle_rests, tail_announces_nothing, tail_draws_nothing}
 use Rattle.bfd_mp.proofs.Soundness.{tail_settle_sound, received_sound, tail_commanded_sound}
 use Rattle.bfd_mp.proofs.Expiry.{tail_expires}
 use Rattle.bfd_mp.proofs.Naming.{tail_settle_named, received_named, tail_commanded_named}
@@ -29,8 +29,8 @@ returns-clause-received_named c = received_named
 pub returns-clause-commanded_named : goal.returns-clause-commanded_named
 returns-clause-commanded_named c = tail_commanded_named
 
-pub returns-clause-tells_nothing : goal.returns-clause-tells_nothing
-returns-clause-tells_nothing c = tail_tells_nothing
+pub returns-clause-announces_nothing : goal.returns-clause-announces_nothing
+returns-clause-announces_nothing c = tail_announces_nothing
 
 pub returns-clause-draws_nothing : goal.returns-clause-draws_nothing
 returns-clause-draws_nothing c = tail_draws_nothing

@@ -5,10 +5,11 @@ use Rattle.bfd_serve.proofs.Summing.{served, others_after, all_ready}
 use Rattle.bfd_serve.proofs.serving.run_all.Goals as goal
 
 pub beside-end-requires-clause-jobs : goal.beside-end-requires-clause-jobs
-beside-end-requires-clause-jobs g c = λ κs within. all_ready g.L.Link.told c.deref_mut.result.now
+beside-end-requires-clause-jobs g c = λ κs within. all_ready g.L.Link.observed c.deref_mut.result.now
     (subst (All (IsFresh c.args.engine.now)) (sym (ap (map pass_of) c.deref_mut.ensures.value ∙ c.pair_up-jobs.ensures.passes))
     c.requires.split.each)
-    (subst (All (IsOpen g.L.Link.told)) (sym (ap (map link_of) c.deref_mut.ensures.value ∙ c.pair_up-jobs.ensures.links)) c.requires.open)
+    (subst (All (IsOpen g.L.Link.observed)) (sym (ap (map link_of) c.deref_mut.ensures.value ∙ c.pair_up-jobs.ensures.links))
+    c.requires.open)
 
 pub join_all-requires-clause-others : goal.join_all-requires-clause-others
 join_all-requires-clause-others g c = let before = c.deref_mut.result.now in let e = c.args.engine.now in
@@ -16,12 +17,12 @@ join_all-requires-clause-others g c = let before = c.deref_mut.result.now in let
     rw (ap (map pass_of) c.deref_mut.ensures.value ∙ c.pair_up-jobs.ensures.passes) c.requires.split in
     subst (All (IsOther e)) (sym (c.take_apart-done.ensures.passes
     ∙ ap (map pass_of) (whole_back c.beside-end.new.jobs c.pair_up-jobs.result.items _ (cc) c.pair_up-jobs.result.ok.0)))
-    (others_after g.L.Link.told e c.args.first.now c.args.limits.turns before c.beside-end.new.jobs (length c.args.links.items) split
+    (others_after g.L.Link.observed e c.args.first.now c.args.limits.turns before c.beside-end.new.jobs (length c.args.links.items) split
     c.beside-end.ensures.long c.beside-end.ensures.worked)
 
 pub returns-clause-served : goal.returns-clause-served
 returns-clause-served g c = let before = c.deref_mut.result.now in let after = c.beside-end.new.jobs in let e = c.args.engine.now in let t =
-    g.L.Link.told in let k = g.T.Ticker.told in
+    g.L.Link.observed in let k = g.T.Ticker.observed in
     let split : HasSplit e c.args.first.now (map pass_of before) (length c.args.links.items) =
     rw (ap (map pass_of) c.deref_mut.ensures.value ∙ c.pair_up-jobs.ensures.passes) c.requires.split in
     let same = whole_back after c.pair_up-jobs.result.items _ (cc) c.pair_up-jobs.result.ok.0 in

@@ -31,8 +31,8 @@ for_each_mut-requires-sync-F g c κs within =
     }
 
 pub for_each_mut-requires-clause-accepts : goal.for_each_mut-requires-clause-accepts
-for_each_mut-requires-clause-accepts g c κs within = λ i p inside is. subst (IsReady g.L.Link.told c.args.engine.now) (sym is)
-    (All-get_or (IsReady g.L.Link.told c.args.engine.now) c.args.jobs.now i p.now inside c.requires)
+for_each_mut-requires-clause-accepts g c κs within = λ i p inside is. subst (IsReady g.L.Link.observed c.args.engine.now) (sym is)
+    (All-get_or (IsReady g.L.Link.observed c.args.engine.now) c.args.jobs.now i p.now inside c.requires)
 
 pub returns-clause-worked : goal.returns-clause-worked
 returns-clause-worked g c = λ i d h. let k = (c.for_each_mut.ensures i d h).1 in

@@ -9,7 +9,7 @@ loop-shard-init g c = record {
   of = c.requires.of;
   there = c.requires.there;
   room = refl;
-  whole = whole_none c.args.engine.now c.args.pass.now (g.L.Link.told c.args.link.now) c.args.lost.now;
+  whole = whole_none c.args.engine.now c.args.pass.now (g.L.Link.observed c.args.link.now) c.args.lost.now;
 }
 
 pub loop-shard-preserved : goal.loop-shard-preserved
@@ -23,7 +23,7 @@ loop-shard-preserved g c = record {
 
 pub returns-in-Err-clause-done : goal.returns-in-Err-clause-done
 returns-in-Err-clause-done g c = let e = c.args.engine.now in let i = c.loop-shard.shard in let n = c.args.tick in let s : ℕ =
-    length c.args.engine.now.locks in let t = g.L.Link.told in
+    length c.args.engine.now.locks in let t = g.L.Link.observed in
     let two : IsStopped e (advances (i + 1) n) c.args.pass.now c.advance.new.pass (t c.args.link.now) (t c.advance.new.link) c.args.lost.now
     c.advance.new.lost c.in-Err.end =
     rw (advances_next i n) (stopped_then e c.loop-shard.invariant.whole c.in-Err.ensures.done) in

@@ -6,6 +6,6 @@ invariant-loop-shard g l = record {
   of : IsOf l.engine l.pass.1;
   there : AllThere l.pass.1;
   room : l.outs.room ≡ l.initial.outs.room;
-  whole : IsWhole l.engine (advances l.shard l.tick) l.initial.pass l.pass (g.L.Link.told l.initial.link) (g.L.Link.told l.link)
+  whole : IsWhole l.engine (advances l.shard l.tick) l.initial.pass l.pass (g.L.Link.observed l.initial.link) (g.L.Link.observed l.link)
       l.initial.lost l.lost;
 }

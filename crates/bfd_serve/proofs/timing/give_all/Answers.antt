@@ -14,7 +14,8 @@ loop-at-preserved g c = let e = c.args.engine.now in record {
 }
 
 pub returns-in-Err-clause-done : goal.returns-in-Err-clause-done
-returns-in-Err-clause-done g c = let e = c.args.engine.now in let os = c.args.orders.now in let i = c.loop-at.at in let t = g.L.Link.told in
+returns-in-Err-clause-done g c = let e = c.args.engine.now in let os = c.args.orders.now in let i = c.loop-at.at in let t =
+    g.L.Link.observed in
     let two : IsStopped e (orders_acts e (take (i + 1) os)) c.args.pass.now c.give.new.pass (t c.args.link.now) (t c.give.new.link)
     c.args.lost.now c.give.new.lost c.in-Err.end =
     rw (orders_next e os c.index-orders-at.result c.loop-at-test.true (search rules))

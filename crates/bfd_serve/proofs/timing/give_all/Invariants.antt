@@ -6,6 +6,6 @@ invariant-loop-at g l = record {
   of : IsOf l.engine l.pass.1;
   there : AllThere l.pass.1;
   room : l.outs.room ≡ l.initial.outs.room;
-  whole : IsWhole l.engine (orders_acts l.engine (take l.at l.orders)) l.initial.pass l.pass (g.L.Link.told l.initial.link)
-      (g.L.Link.told l.link) l.initial.lost l.lost;
+  whole : IsWhole l.engine (orders_acts l.engine (take l.at l.orders)) l.initial.pass l.pass (g.L.Link.observed l.initial.link)
+      (g.L.Link.observed l.link) l.initial.lost l.lost;
 }

@@ -9,6 +9,7 @@ returns-in-Err-clause-done g c = let e = c.args.engine.now in
 
 pub returns-clause-done : goal.returns-clause-done
 returns-clause-done g c = let e = c.args.engine.now in
-    rw (← c.requires.due) (done_then e (advances (length e.locks) c.args.tick) c.advance_all.new.pass (g.L.Link.told c.advance_all.new.link)
+    rw (← c.requires.due) (done_then e (advances (length e.locks) c.args.tick) c.advance_all.new.pass
+    (g.L.Link.observed c.advance_all.new.link)
     c.advance_all.new.lost c.advance_all.result
     c.in_default.ensures.done c.advance_all.ensures.done)

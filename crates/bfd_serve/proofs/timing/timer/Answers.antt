@@ -4,24 +4,25 @@ use Rattle.bfd_serve.proofs.Ticking.{ticking_start, ticking_more, timed_cut, tim
 use Rattle.bfd_serve.proofs.timing.timer.Goals as goal
 
 pub returns-in_default-clause-timed : goal.returns-in_default-clause-timed
-returns-in_default-clause-timed g c = timed_without c.args.engine.now c.args.pass.now (g.L.Link.told c.args.link.now)
-    (g.T.Ticker.told c.args.ticker.now) c.args.orders.now c.args.ticks c.requires.open (c.is_idle.ensures.some c.if-is_idle.false)
+returns-in_default-clause-timed g c = timed_without c.args.engine.now c.args.pass.now (g.L.Link.observed c.args.link.now)
+    (g.T.Ticker.observed c.args.ticker.now) c.args.orders.now c.args.ticks c.requires.open (c.is_idle.ensures.some c.if-is_idle.false)
 
 pub returns-then-is_idle-clause-timed : goal.returns-then-is_idle-clause-timed
 returns-then-is_idle-clause-timed g c = let none = c.is_idle.ensures.none c.if-is_idle.true in
-    timed_idle c.args.engine.now c.args.pass.now (g.L.Link.told c.args.link.now) (g.T.Ticker.told c.args.ticker.now) c.args.orders.now
+    timed_idle c.args.engine.now c.args.pass.now (g.L.Link.observed c.args.link.now) (g.T.Ticker.observed c.args.ticker.now)
+    c.args.orders.now
     c.args.ticks c.requires.open none.0 none.1
 
 pub returns-in_default-make-clause-timed : goal.returns-in_default-make-clause-timed
-returns-in_default-make-clause-timed g c = timed_without c.args.engine.now c.args.pass.now (g.L.Link.told c.args.link.now)
-    (g.T.Ticker.told c.args.ticker.now) c.args.orders.now c.args.ticks c.requires.open (c.is_idle.ensures.some c.if-is_idle.false)
+returns-in_default-make-clause-timed g c = timed_without c.args.engine.now c.args.pass.now (g.L.Link.observed c.args.link.now)
+    (g.T.Ticker.observed c.args.ticker.now) c.args.orders.now c.args.ticks c.requires.open (c.is_idle.ensures.some c.if-is_idle.false)
 
 pub loop-count-init : goal.loop-count-init
 loop-count-init g c = record {
   of = c.requires.of;
   there = c.requires.there;
   room = search rules;
-  ticking = ticking_start c.args.engine.now c.args.pass.now (g.L.Link.told c.args.link.now) (g.T.Ticker.told c.args.ticker.now)
+  ticking = ticking_start c.args.engine.now c.args.pass.now (g.L.Link.observed c.args.link.now) (g.T.Ticker.observed c.args.ticker.now)
       c.args.orders.now c.requires.open;
 }
 

@@ -6,6 +6,6 @@ invariant-loop-count g l = record {
   of : IsOf l.engine l.pass.1;
   there : AllThere l.pass.1;
   room : HasRoom l.engine l.outs.room;
-  ticking : IsTicking l.engine l.initial.pass l.pass (g.L.Link.told l.initial.link) (g.L.Link.told l.link)
-      (g.T.Ticker.told l.initial.ticker) (g.T.Ticker.told l.ticker) l.orders l.left l.count l.lost;
+  ticking : IsTicking l.engine l.initial.pass l.pass (g.L.Link.observed l.initial.link) (g.L.Link.observed l.link)
+      (g.T.Ticker.observed l.initial.ticker) (g.T.Ticker.observed l.ticker) l.orders l.left l.count l.lost;
 }

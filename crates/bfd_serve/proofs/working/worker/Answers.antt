@@ -6,15 +6,15 @@ use Rattle.bfd_serve.proofs.working.worker.Goals as goal
 use Rattle.bfd_serve.proofs.working.worker.Goals.{in-Quiet, in-Got+in_default-handled}
 
 pub returns-in_default-clause-worked : goal.returns-in_default-clause-worked
-returns-in_default-clause-worked g c = worked_without c.args.engine.now c.args.pass.now (g.L.Link.told c.args.link.now) c.args.turns
+returns-in_default-clause-worked g c = worked_without c.args.engine.now c.args.pass.now (g.L.Link.observed c.args.link.now) c.args.turns
     c.requires.open (omega arith)
 
 pub returns-then-turns-eq0-clause-worked : goal.returns-then-turns-eq0-clause-worked
 returns-then-turns-eq0-clause-worked g c = working_turns c.args.engine.now
-    (working_start c.args.engine.now c.args.pass.now (g.L.Link.told c.args.link.now) c.requires.open) (omega arith)
+    (working_start c.args.engine.now c.args.pass.now (g.L.Link.observed c.args.link.now) c.requires.open) (omega arith)
 
 pub returns-in-Err-clause-worked : goal.returns-in-Err-clause-worked
-returns-in-Err-clause-worked g c = let t = g.L.Link.told in
+returns-in-Err-clause-worked g c = let t = g.L.Link.observed in
     (working_got c.args.engine.now _ _ c.handle-handled.new.pass _ _ _ (t c.handle-handled.new.link)
     _ c.in-Got.moment c.in-Got.arrival _ c.handle-handled.new.lost c.handle-handled.result c.loop-turn.invariant.working c.in-Got.ensures
     c.handle-handled.ensures.done).1 c.args.turns c.in-Err.end c.loop-turn-test.true c.in-Err.is
@@ -24,11 +24,11 @@ loop-turn-init g c = record {
   of = c.requires.of;
   there = c.requires.there;
   room = search rules;
-  working = working_start c.args.engine.now c.args.pass.now (g.L.Link.told c.args.link.now) c.requires.open;
+  working = working_start c.args.engine.now c.args.pass.now (g.L.Link.observed c.args.link.now) c.requires.open;
 }
 
 pub loop-turn-preserved : goal.loop-turn-preserved
-loop-turn-preserved g c = let t = g.L.Link.told in let i = c.loop-turn.invariant in elim c.match-receive.branch [
+loop-turn-preserved g c = let t = g.L.Link.observed in let i = c.loop-turn.invariant in elim c.match-receive.branch [
   | in-Got+in_default-handled w ↦ rw (w.pass-is, w.link-is, w.lost-is, w.outs-is) (record {
     of = w.handle-handled.ensures.of;
     there = w.handle-handled.ensures.there;

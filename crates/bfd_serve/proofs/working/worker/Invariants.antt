@@ -6,5 +6,5 @@ invariant-loop-turn g l = record {
   of : IsOf l.engine l.pass.1;
   there : AllThere l.pass.1;
   room : 5 ≤ l.outs.room;
-  working : IsWorking l.engine l.initial.pass l.pass (g.L.Link.told l.initial.link) (g.L.Link.told l.link) l.turn l.lost;
+  working : IsWorking l.engine l.initial.pass l.pass (g.L.Link.observed l.initial.link) (g.L.Link.observed l.link) l.turn l.lost;
 }

@@ -23,8 +23,8 @@ captures_send δ name T₀ T₁ T₂ T₃ s₀ s₁ s₂ s₃ =
     param_send 1 (arg δ no (TupleAt name Ts)) (arg_send δ no (TupleAt name Ts) (declared_send (type_at name Ts)
     (as_row_send (row_field T₀) s₀, (as_row_send (row_field T₁) s₁, (as_row_send (row_field T₂) s₂, (as_row_send (row_field T₃) s₃, tt))))))
 
-pub join_mut-told-requires-send-F : goal.join_mut-told-requires-send-F
-join_mut-told-requires-send-F g c κs within =
+pub join_mut-reported-requires-send-F : goal.join_mut-reported-requires-send-F
+join_mut-reported-requires-send-F g c κs within =
     let s = captures_send ty_unit (codes "bfd_thread_tests::clients::fn::beside::worked+Self") _ _ _ _
     (shr_send (named 5) κs.1.1.1.1.1.1.1.1.0 _ c.type_bounds.sync-R) (shr_send (named 6) κs.1.1.1.1.1.1.1.1.1.0 _ heap.sync)
     (shr_send (named 7) κs.1.1.1.1.1.1.1.1.1.1.0 _ (engine_sync (param 0 g.row.W) g.W.Timers g.W.Timers-dict g.W.Destruct-dict

@@ -11,5 +11,5 @@ loop-count-preserved g c = record {
   of = c.poll.ensures.of;
   there = c.poll.ensures.there;
   grown = grown_then c.args.pass.now c.loop-count.pass c.poll.new.pass c.loop-count.invariant.grown c.poll.ensures.grown;
-  told = c.in_ok-poll.ensures.told;
+  reported = c.in_ok-poll.ensures.reported;
 }

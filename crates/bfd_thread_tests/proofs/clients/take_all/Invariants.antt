@@ -5,6 +5,6 @@ use Rattle.bfd_thread_tests.proofs.clients.take_all.Given as goal
 
 abbrev pub invariant-loop-entry : goal.invariant-loop-entry
 invariant-loop-entry l = record {
-  told : AreItsChanges l.client.watch l.client.told.items;
+  reported : AreItsChanges l.client.watch l.client.reported.items;
   taken : l.client.watch.entries ++ drop l.entry-index l.list ≡ l.initial.client.watch.entries ++ l.list;
 }

@@ -5,6 +5,6 @@ use Rattle.bfd_watch.proofs.watch.append_changes.Given as goal
 
 abbrev pub invariant-loop-item : goal.invariant-loop-item
 invariant-loop-item l = record {
-  told : l.out.items ++ changes_in l.number (drop l.item-index l.items) ≡ l.initial.out.items ++ changes_in l.number l.items;
+  reported : l.out.items ++ changes_in l.number (drop l.item-index l.items) ≡ l.initial.out.items ++ changes_in l.number l.items;
   room : vec_len l.out + length l.items ≤ vec_capacity l.out + l.item-index;
 }

@@ -1,7 +1,7 @@
 -- What the parts of a run promise of the job is promised of the words that ask for it.
 use Rattle.bfdd.proofs.Common.{◌≡◌, ◌⊎◌, true, false, Some, inr, subst, sym, IfSome, Rose, Job, Memory, IsDecided, IsServedToFinish}
 use Rattle.bfdd.proofs.Common.{edges_of, Wanted, wanted_of, is_reading, serves, Appends, TookFront, took_nothing}
-use Rattle.bfdd.specs.Telling.{IsTold}
+use Rattle.bfdd.specs.RunReport.{IsReported}
 use Rattle.bfdd.proofs.Ending.{ended, ends_so, unopened}
 use Rattle.bfdd.proofs.Served.{finished, of_serving}
 use Rattle.bfdd.proofs.Wanting.{done_wanted, of_all, of_answer, of_job, settled}
@@ -46,28 +46,30 @@ returns-in-Ok-clause-fits g c =
     (decided _ _ _ _ _ _ c.in-Ok.ensures.sound c.write_answer.ensures)
     (no_read_fault _ _ _ _ _ _ c.in-Ok.ensures.sound c.write_answer.ensures)
     (ends_so c.in-Some.job (g.S.Source.left c.args.source.now) (g.S.Source.left c.answer_to_job.new.source)
-    (edges_of (g.P.Ports.told c.args.ports.now) (g.T.Ticker.told c.args.ticker.now)) (edges_of (g.P.Ports.told c.answer_to_job.new.ports)
-    (g.T.Ticker.told c.answer_to_job.new.ticker)) c.in-Ok.answer c.in-Ok.ensures.tells))
+    (edges_of (g.P.Ports.observed c.args.ports.now) (g.T.Ticker.observed c.args.ticker.now))
+    (edges_of (g.P.Ports.observed c.answer_to_job.new.ports)
+    (g.T.Ticker.observed c.answer_to_job.new.ticker)) c.in-Ok.answer c.in-Ok.ensures.reports))
 
-pub returns-in-Ok-clause-told : goal.returns-in-Ok-clause-told
-returns-in-Ok-clause-told g c = λ memory source.
-    let P : Job → Type 0 = λ job. IsTold job (g.S.Source.left c.args.source.now) (g.S.Source.left c.answer_to_job.new.source)
-    (edges_of (g.P.Ports.told c.args.ports.now) (g.T.Ticker.told c.args.ticker.now)) (edges_of (g.P.Ports.told c.answer_to_job.new.ports)
-    (g.T.Ticker.told c.answer_to_job.new.ticker)) (g.K.Sink.taken c.args.sink.now) (g.K.Sink.taken c.write_answer.new.sink)
+pub returns-in-Ok-clause-reported : goal.returns-in-Ok-clause-reported
+returns-in-Ok-clause-reported g c = λ memory source.
+    let P : Job → Type 0 = λ job. IsReported job (g.S.Source.left c.args.source.now) (g.S.Source.left c.answer_to_job.new.source)
+    (edges_of (g.P.Ports.observed c.args.ports.now) (g.T.Ticker.observed c.args.ticker.now))
+    (edges_of (g.P.Ports.observed c.answer_to_job.new.ports)
+    (g.T.Ticker.observed c.answer_to_job.new.ticker)) (g.K.Sink.taken c.args.sink.now) (g.K.Sink.taken c.write_answer.new.sink)
     (g.K.Sink.faults c.args.sink.now) (g.K.Sink.faults c.write_answer.new.sink) c.write_answer.result in
-    let told : P c.in-Some.job = record {
+    let reported : P c.in-Some.job = record {
       w = c.in-Ok.answer;
-      tells = c.in-Ok.ensures.tells;
+      reports = c.in-Ok.ensures.reports;
       decided = decided _ _ _ _ _ _ c.in-Ok.ensures.sound c.write_answer.ensures;
       written = written _ _ _ _ _ _ c.in-Ok.ensures.sound c.write_answer.ensures;
     } in
-    rw (← c.in-Some.ensures.value) told
+    rw (← c.in-Some.ensures.value) reported
 
 pub returns-in-Ok-clause-finished : goal.returns-in-Ok-clause-finished
 returns-in-Ok-clause-finished g c =
     let left = g.S.Source.left c.args.source.now in
-    let old = edges_of (g.P.Ports.told c.args.ports.now) (g.T.Ticker.told c.args.ticker.now) in
-    let new = edges_of (g.P.Ports.told c.answer_to_job.new.ports) (g.T.Ticker.told c.answer_to_job.new.ticker) in
+    let old = edges_of (g.P.Ports.observed c.args.ports.now) (g.T.Ticker.observed c.args.ticker.now) in
+    let new = edges_of (g.P.Ports.observed c.answer_to_job.new.ports) (g.T.Ticker.observed c.answer_to_job.new.ticker) in
     let P : Job → Type 0 = λ job. (Rose (g.S.Source.faults c.args.source.now) (g.S.Source.faults c.answer_to_job.new.source) → ⊥)
     → (Rose (g.K.Sink.faults c.args.sink.now) (g.K.Sink.faults c.write_answer.new.sink) → ⊥)
     → (Rose old.ports.faults new.ports.faults → ⊥) → IfSome left (IsServedToFinish job old new c.write_answer.result) in
@@ -75,7 +77,7 @@ returns-in-Ok-clause-finished g c =
     finished c.in-Some.job left (g.S.Source.left c.answer_to_job.new.source) old new c.in-Ok.answer
     (settled c.write_answer.result (decided _ _ _ _ _ _ c.in-Ok.ensures.sound c.write_answer.ensures)
     (no_read_fault _ _ _ _ _ _ c.in-Ok.ensures.sound c.write_answer.ensures)
-    (λ failed. sink_calm (write_fault _ _ _ _ _ _ c.in-Ok.ensures.sound c.write_answer.ensures failed))) ports_calm c.in-Ok.ensures.tells
+    (λ failed. sink_calm (write_fault _ _ _ _ _ _ c.in-Ok.ensures.sound c.write_answer.ensures failed))) ports_calm c.in-Ok.ensures.reports
     serving in
     rw (← c.in-Some.ensures.value) (of_serving c.in-Some.job P done)
 
@@ -110,19 +112,19 @@ returns-in-Ok-clause-broken_off g c = λ memory.
       c.in-Some.job,
       sym c.in-Some.ensures.value,
       c.in-Ok.answer,
-      c.in-Ok.ensures.tells,
+      c.in-Ok.ensures.reports,
       front _ _ _ _ _ _ c.in-Ok.ensures.sound c.write_answer.ensures,
     )
 
 pub returns-in-Ok-clause-unopened : goal.returns-in-Ok-clause-unopened
 returns-in-Ok-clause-unopened g c =
-    let old = edges_of (g.P.Ports.told c.args.ports.now) (g.T.Ticker.told c.args.ticker.now) in
-    let idle : serves c.in-Some.job ≡ false → (edges_of (g.P.Ports.told c.answer_to_job.new.ports)
-    (g.T.Ticker.told c.answer_to_job.new.ticker)) ≡ old = λ closed. let same = c.answer_to_job.ensures.idle closed in cc in
+    let old = edges_of (g.P.Ports.observed c.args.ports.now) (g.T.Ticker.observed c.args.ticker.now) in
+    let idle : serves c.in-Some.job ≡ false → (edges_of (g.P.Ports.observed c.answer_to_job.new.ports)
+    (g.T.Ticker.observed c.answer_to_job.new.ticker)) ≡ old = λ closed. let same = c.answer_to_job.ensures.idle closed in cc in
     unopened c.in-Some.job (g.S.Source.left c.args.source.now) (g.S.Source.left c.answer_to_job.new.source) c.in-Ok.answer
     c.write_answer.result
     (decided _ _ _ _ _ _ c.in-Ok.ensures.sound c.write_answer.ensures)
-    (no_read_fault _ _ _ _ _ _ c.in-Ok.ensures.sound c.write_answer.ensures) idle c.in-Ok.ensures.tells
+    (no_read_fault _ _ _ _ _ _ c.in-Ok.ensures.sound c.write_answer.ensures) idle c.in-Ok.ensures.reports
 
 -- the source failed
 

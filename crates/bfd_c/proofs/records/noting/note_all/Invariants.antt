@@ -5,6 +5,6 @@ use Rattle.bfd_c.proofs.records.noting.note_all.Given as goal
 
 abbrev pub invariant-loop-at : goal.invariant-loop-at
 invariant-loop-at g l = record {
-  told : all_given l.instance.world l.records.items (drop l.at l.outs) ≡ all_given l.instance.world l.initial.records.items l.outs;
+  reported : all_given l.instance.world l.records.items (drop l.at l.outs) ≡ all_given l.instance.world l.initial.records.items l.outs;
   long : length l.records.items ≡ length l.instance.world.sessions;
 }

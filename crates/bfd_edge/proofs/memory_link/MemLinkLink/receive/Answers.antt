@@ -1,14 +1,14 @@
 use Rattle.std.proofs.Common.{ap, sym}
-use Rattle.bfd_edge.specs.MemoryLink.{told_of}
-use Rattle.bfd_edge.proofs.Hearing.{heard_all, told_more}
+use Rattle.bfd_edge.specs.MemoryLink.{observed_of}
+use Rattle.bfd_edge.proofs.Hearing.{heard_all, observed_more}
 use Rattle.bfd_edge.proofs.memory_link.MemLinkLink.receive.Goals as goal
 
 pub returns-clause-after : goal.returns-clause-after
 returns-clause-after c =
     let answer = c.heard_at-received.result in
     rw (c.items_of.ensures, c.note_received.ensures)
-    (told_more answer (heard_all c.self.inside.heard.items c.self.inside.at answer
-    (rw c.deref.ensures.value at c.heard_at-received.ensures)).0 (ap (λ link. told_of link) (sym c.self.view_is)))
+    (observed_more answer (heard_all c.self.inside.heard.items c.self.inside.at answer
+    (rw c.deref.ensures.value at c.heard_at-received.ensures)).0 (ap (λ link. observed_of link) (sym c.self.view_is)))
 
 pub returns-clause-answer : goal.returns-clause-answer
 returns-clause-answer c =

@@ -5,17 +5,17 @@ use Rattle.bfd_edge.specs.Memory.{is_to_fail}
 use Rattle.bfd_edge.specs.Links.{IsNewLink}
 use Rattle.bfd_edge.specs.MemoryLink.{HeldLink}
 use Rattle.bfd_edge.specs.MemoryLink as memory_link
-use Rattle.bfd_edge.specs.MemoryPorts.{HeldPorts, link_at, told_of, with_ended}
-use Rattle.bfd_edge.specs.Places.{place_in, ports_told, with_place}
+use Rattle.bfd_edge.specs.MemoryPorts.{HeldPorts, link_at, observed_of, with_ended}
+use Rattle.bfd_edge.specs.Places.{place_in, ports_observed, with_place}
 use Rattle.bfd_edge.specs.Ports.{after_open}
 use Rattle.bfd_edge.proofs.Opening.{new_at, new_still}
-use Rattle.bfd_edge.proofs.Placing.{open_told}
+use Rattle.bfd_edge.proofs.Placing.{open_observed}
 use Rattle.bfd_edge.proofs.memory_ports.MemPortsPorts.open.Goals as goal
 
 pub returns-in-Err-clause-after : goal.returns-in-Err-clause-after
 returns-in-Err-clause-after c =
-    ap (λ places. ports_told memory_link.told_of places c.self.inside.faults) c.in-Err.ensures.err
-    ∙ ap (λ ports. told_of ports) c.self.view_is
+    ap (λ places. ports_observed memory_link.observed_of places c.self.inside.faults) c.in-Err.ensures.err
+    ∙ ap (λ ports. observed_of ports) c.self.view_is
 
 pub returns-in-Err-clause-answer : goal.returns-in-Err-clause-answer
 returns-in-Err-clause-answer c =
@@ -30,7 +30,7 @@ invariant_of-self-in-Ok c = rw c.take_link-link.ensures.rest (new_still c.self.i
 
 pub returns-in-Ok-clause-link : goal.returns-in-Ok-clause-link
 returns-in-Ok-clause-link c =
-    let taken : IsNewLink (memory_link.told_of c.take_link-link.result) =
+    let taken : IsNewLink (memory_link.observed_of c.take_link-link.result) =
     rw c.take_link-link.ensures.link (new_at c.self.inside.links.items c.args.number c.self.invariant) in
     rw c.opened_as.ensures (record { counts = taken.counts; traffic = taken.traffic })
 
@@ -38,9 +38,9 @@ pub returns-in-Ok-clause-after : goal.returns-in-Ok-clause-after
 returns-in-Ok-clause-after c =
     let number = c.args.number in
     let places = c.self.inside.places in
-    let waiting = ap (λ ports. (told_of ports).opened number) c.self.view_is ∙ c.requires in
-    open_told memory_link.told_of (place_in places) _ number c.self.inside.faults c.opened_as.result c.in-Ok.ensures.ok waiting
-    ∙ ap (λ ports. after_open number (Ok c.opened_as.result) (told_of ports)) c.self.view_is
+    let waiting = ap (λ ports. (observed_of ports).opened number) c.self.view_is ∙ c.requires in
+    open_observed memory_link.observed_of (place_in places) _ number c.self.inside.faults c.opened_as.result c.in-Ok.ensures.ok waiting
+    ∙ ap (λ ports. after_open number (Ok c.opened_as.result) (observed_of ports)) c.self.view_is
 
 pub returns-in-Ok-clause-answer : goal.returns-in-Ok-clause-answer
 returns-in-Ok-clause-answer c =

@@ -109,4 +109,4 @@ returns-in-Err-clause-call g c = fault_done c.args.self.now c.args.pass.now c.ar
     c.turn_with-back.new.outs c.lift-own.ensures.pass (c.requires.of.base_is c.args.shard c.lift-own.result c.lift-own.ensures.pass)
     (rw (c.put.ensures, c.lift-own.ensures.rest, set-set) refl) c.lift-own.ensures.callers.number_is c.turn_with-back.ensures.same
     c.in-Err.is c.turn_with-back.ensures.fault
-    c.turn_with-back.ensures.untold c.fault_at.ensures
+    c.turn_with-back.ensures.unreported c.fault_at.ensures

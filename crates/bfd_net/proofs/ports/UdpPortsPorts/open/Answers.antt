@@ -1,9 +1,9 @@
 use Rattle.std.proofs.Common.{◌≡◌, false, ◌∙◌, ap}
 use Rattle.std.specs.Prelude.{Ok}
-use Rattle.bfd_edge.specs.Places.{is_opened, place_in, ports_told}
+use Rattle.bfd_edge.specs.Places.{is_opened, place_in, ports_observed}
 use Rattle.bfd_edge.specs.Ports.{after_open}
-use Rattle.bfd_edge.proofs.Placing.{open_told}
-use Rattle.bfd_net.specs.Sockets.{counts_told, ports_told_of}
+use Rattle.bfd_edge.proofs.Placing.{open_observed}
+use Rattle.bfd_net.specs.Sockets.{counts_observed, ports_observed_of}
 use Rattle.bfd_net.proofs.ports.UdpPortsPorts.open.Goals.{in-Ok, in-Err}
 use Rattle.bfd_net.proofs.ports.UdpPortsPorts.open.Goals as goal
 
@@ -14,8 +14,8 @@ returns-clause-after g c =
     let faults = c.self.inside.faults in
     let waiting : is_opened (place_in places number) ≡ false = cc in
     elim c.match-open.branch [
-      | in-Ok w ↦ rw w.result-is (open_told counts_told (place_in places) _ number faults c.in-Some.link w.in-Ok.ensures.ok waiting
-          ∙ ap (λ ports. after_open number (Ok c.in-Some.link) (ports_told_of ports)) c.self.view_is)
-      | in-Err w ↦ rw w.result-is (ap (λ after. ports_told counts_told after faults) w.in-Err.ensures.err
-          ∙ ap (λ ports. ports_told_of ports) c.self.view_is)
+      | in-Ok w ↦ rw w.result-is (open_observed counts_observed (place_in places) _ number faults c.in-Some.link w.in-Ok.ensures.ok waiting
+          ∙ ap (λ ports. after_open number (Ok c.in-Some.link) (ports_observed_of ports)) c.self.view_is)
+      | in-Err w ↦ rw w.result-is (ap (λ after. ports_observed counts_observed after faults) w.in-Err.ensures.err
+          ∙ ap (λ ports. ports_observed_of ports) c.self.view_is)
     ]

@@ -23,7 +23,7 @@ push_pieces-requires g c = put_wide c.in-Some.ensures.first c.runs.invariant.put
 
 pub runs-preserved : goal.runs-preserved
 runs-preserved g c = record {
-  put = put_more c.in-Some.ensures.first c.in_ok-queues-2.ensures c.in_ok-append.ensures.told c.runs.invariant.put;
+  put = put_more c.in-Some.ensures.first c.in_ok-queues-2.ensures c.in_ok-append.ensures.reported c.runs.invariant.put;
 }
 
 pub returns-clause-queues : goal.returns-clause-queues

@@ -16,8 +16,8 @@ loop-s-preserved c = record {
   few = omega (arith, c.loop-s.invariant.few, c.in_ok-sent.ensures.few);
 }
 
-pub returns-clause-told : goal.returns-clause-told
-returns-clause-told c = λ dealt h. (gone _ c.loop-s.invariant.heads c.in_default.ensures.none (c.loop-s.invariant.goes dealt h)).0
+pub returns-clause-reported : goal.returns-clause-reported
+returns-clause-reported c = λ dealt h. (gone _ c.loop-s.invariant.heads c.in_default.ensures.none (c.loop-s.invariant.goes dealt h)).0
 
 pub returns-clause-txs : goal.returns-clause-txs
 returns-clause-txs c = λ dealt h. (gone _ c.loop-s.invariant.heads c.in_default.ensures.none (c.loop-s.invariant.goes dealt h)).1

@@ -31,8 +31,9 @@ pub returns-in_err-give_on-clause-front : goal.returns-in_err-give_on-clause-fro
 returns-in_err-give_on-clause-front g c = λ dealt h. given_broken _ (taken g (goal.at.returns-in_err-give_on-clause-front g c).In-Ok h)
     c.give_on.ensures.front
 
-pub returns-clause-told : goal.returns-clause-told
-returns-clause-told g c = λ dealt h. (all_given _ c.loop-s.invariant.heads c.in_default.ensures.none (c.loop-s.invariant.goes dealt h)).0
+pub returns-clause-reported : goal.returns-clause-reported
+returns-clause-reported g c = λ dealt h. (all_given _ c.loop-s.invariant.heads c.in_default.ensures.none
+    (c.loop-s.invariant.goes dealt h)).0
 
 pub returns-clause-front : goal.returns-clause-front
 returns-clause-front g c = λ dealt h. given_front (c.loop-s.invariant.goes dealt h)

@@ -15,9 +15,9 @@ pub returns-in_default-heads_of-clause-front : goal.returns-in_default-heads_of-
 returns-in_default-heads_of-clause-front g c = λ dealt h. took_nothing (g.K.Sink.taken c.args.sink.now)
     (c.args.text.now.items ++ dealt_text dealt)
 
-pub returns-in-Some-clause-told : goal.returns-in-Some-clause-told
-returns-in-Some-clause-told g c = λ dealt h. rw (← sole_texts h (is_all c.args.parts.now.items c.in-Some.is c.in-Ok.ensures)
-    c.index_mut.ensures.value) c.give_sole.ensures.told
+pub returns-in-Some-clause-reported : goal.returns-in-Some-clause-reported
+returns-in-Some-clause-reported g c = λ dealt h. rw (← sole_texts h (is_all c.args.parts.now.items c.in-Some.is c.in-Ok.ensures)
+    c.index_mut.ensures.value) c.give_sole.ensures.reported
 
 pub returns-in-Some-clause-front : goal.returns-in-Some-clause-front
 returns-in-Some-clause-front g c = λ dealt h. rw (← sole_texts h (is_all c.args.parts.now.items c.in-Some.is c.in-Ok.ensures)
@@ -31,8 +31,8 @@ pub returns-in-Some-clause-drops : goal.returns-in-Some-clause-drops
 returns-in-Some-clause-drops g c = λ dealt h. rw (← sole_drops h (is_all c.args.parts.now.items c.in-Some.is c.in-Ok.ensures)
     c.index_mut.ensures.value) c.give_sole.ensures.drops
 
-pub returns-clause-told : goal.returns-clause-told
-returns-clause-told g c = λ dealt h. c.give.ensures.told dealt (subst (IsSpread dealt) (sym c.in-Ok-rests_of.ensures) h)
+pub returns-clause-reported : goal.returns-clause-reported
+returns-clause-reported g c = λ dealt h. c.give.ensures.reported dealt (subst (IsSpread dealt) (sym c.in-Ok-rests_of.ensures) h)
 
 pub returns-clause-front : goal.returns-clause-front
 returns-clause-front g c = λ dealt h. c.give.ensures.front dealt (subst (IsSpread dealt) (sym c.in-Ok-rests_of.ensures) h)

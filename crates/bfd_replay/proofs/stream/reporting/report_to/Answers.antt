@@ -20,40 +20,40 @@ returns-in_default-with_capacity-clause-front g c = took_nothing (g.K.Sink.taken
 pub returns-in_default-opened-clause-front : goal.returns-in_default-opened-clause-front
 returns-in_default-opened-clause-front g c = took_nothing (g.K.Sink.taken c.args.sink.now) (replayed c.args.script)
 
-pub tell_all-requires-clause-room : goal.tell_all-requires-clause-room
-tell_all-requires-clause-room g c = λ shard. room_enough c.in-Ok-opened.engine shard c.in-Ok-opened.ensures.engine.configs_are
+pub report_all-requires-clause-room : goal.report_all-requires-clause-room
+report_all-requires-clause-room g c = λ shard. room_enough c.in-Ok-opened.engine shard c.in-Ok-opened.ensures.engine.configs_are
     (search rules)
 
-pub returns-in-Ok-tell_all-clause-whole : goal.returns-in-Ok-tell_all-clause-whole
-returns-in-Ok-tell_all-clause-whole g c =
-    subst (λ t. Appends (g.K.Sink.taken c.args.sink.now) (g.K.Sink.taken c.tell_all.new.sink) t)
+pub returns-in-Ok-report_all-clause-whole : goal.returns-in-Ok-report_all-clause-whole
+returns-in-Ok-report_all-clause-whole g c =
+    subst (λ t. Appends (g.K.Sink.taken c.args.sink.now) (g.K.Sink.taken c.report_all.new.sink) t)
     (report_on (script_with c.script.inside.configs.items c.script.inside.pool.items c.script.inside.events.items)
-    c.in-Ok-opened.ensures.engine c.script.view_is) c.in-Ok-tell_all.ensures.whole
+    c.in-Ok-opened.ensures.engine c.script.view_is) c.in-Ok-report_all.ensures.whole
 
-pub returns-in-Ok-tell_all-clause-states : goal.returns-in-Ok-tell_all-clause-states
-returns-in-Ok-tell_all-clause-states g c =
+pub returns-in-Ok-report_all-clause-states : goal.returns-in-Ok-report_all-clause-states
+returns-in-Ok-report_all-clause-states g c =
     rw c.of.ensures (replayed_on (script_with c.script.inside.configs.items c.script.inside.pool.items c.script.inside.events.items)
-    c.in-Ok-opened.ensures.engine c.script.view_is c.in-Ok-tell_all.ensures.states)
+    c.in-Ok-opened.ensures.engine c.script.view_is c.in-Ok-report_all.ensures.states)
 
-pub returns-in-Ok-tell_all-clause-front : goal.returns-in-Ok-tell_all-clause-front
-returns-in-Ok-tell_all-clause-front g c =
-    subst (λ t. TookFront (g.K.Sink.taken c.args.sink.now) (g.K.Sink.taken c.tell_all.new.sink) t)
+pub returns-in-Ok-report_all-clause-front : goal.returns-in-Ok-report_all-clause-front
+returns-in-Ok-report_all-clause-front g c =
+    subst (λ t. TookFront (g.K.Sink.taken c.args.sink.now) (g.K.Sink.taken c.report_all.new.sink) t)
     (report_on (script_with c.script.inside.configs.items c.script.inside.pool.items c.script.inside.events.items)
-    c.in-Ok-opened.ensures.engine c.script.view_is) c.tell_all.ensures.front
+    c.in-Ok-opened.ensures.engine c.script.view_is) c.report_all.ensures.front
 
-pub returns-in-Ok-tell_all-clause-cause : goal.returns-in-Ok-tell_all-clause-cause
-returns-in-Ok-tell_all-clause-cause g c = calm_cause _ _ _ c.in-Ok-tell_all.ensures.calm
+pub returns-in-Ok-report_all-clause-cause : goal.returns-in-Ok-report_all-clause-cause
+returns-in-Ok-report_all-clause-cause g c = calm_cause _ _ _ c.in-Ok-report_all.ensures.calm
 
 pub returns-in-Err-clause-front : goal.returns-in-Err-clause-front
 returns-in-Err-clause-front g c =
-    subst (λ t. TookFront (g.K.Sink.taken c.args.sink.now) (g.K.Sink.taken c.tell_all.new.sink) t)
+    subst (λ t. TookFront (g.K.Sink.taken c.args.sink.now) (g.K.Sink.taken c.report_all.new.sink) t)
     (report_on (script_with c.script.inside.configs.items c.script.inside.pool.items c.script.inside.events.items)
-    c.in-Ok-opened.ensures.engine c.script.view_is) c.tell_all.ensures.front
+    c.in-Ok-opened.ensures.engine c.script.view_is) c.report_all.ensures.front
 
-pub returns-in-Ok-tell_all-clause-totals : goal.returns-in-Ok-tell_all-clause-totals
-returns-in-Ok-tell_all-clause-totals g c =
+pub returns-in-Ok-report_all-clause-totals : goal.returns-in-Ok-report_all-clause-totals
+returns-in-Ok-report_all-clause-totals g c =
     let script : Lists = script_with c.script.inside.configs.items c.script.inside.pool.items c.script.inside.events.items in
-    subst (λ s. HasTotals s c.in-Ok-tell_all.counts c.up_all.result) c.script.view_is
+    subst (λ s. HasTotals s c.in-Ok-report_all.counts c.up_all.result) c.script.view_is
     (totals_are script c.args.shards (taker_of 1) c.requires.shards.0
-    (replayed_on script c.in-Ok-opened.ensures.engine refl c.in-Ok-tell_all.ensures.states) c.up_all.ensures.kept c.up_all.ensures.value
-    (c.in-Ok-tell_all.ensures.counts ∙ ap counts_of (outcomes_were script c.in-Ok-opened.ensures.engine refl)))
+    (replayed_on script c.in-Ok-opened.ensures.engine refl c.in-Ok-report_all.ensures.states) c.up_all.ensures.kept c.up_all.ensures.value
+    (c.in-Ok-report_all.ensures.counts ∙ ap counts_of (outcomes_were script c.in-Ok-opened.ensures.engine refl)))

@@ -1,7 +1,7 @@
 -- One more shard.
 use Rattle.std.proofs.Common.{◌+◌, arith, refl, rules, subst}
-use Rattle.bfd_replay.specs.Turning.{HaveToldTick}
-use Rattle.bfd_replay.proofs.Going.{ticked_none, ticked_on, tick_kept, tick_refused, tick_told}
+use Rattle.bfd_replay.specs.Turning.{HaveReportedTick}
+use Rattle.bfd_replay.proofs.Going.{ticked_none, ticked_on, tick_kept, tick_refused, tick_reported}
 use Rattle.bfd_replay.proofs.stream.ticking.tick_parts.Goals as goal
 
 pub loop-shard-init : goal.loop-shard-init
@@ -11,7 +11,7 @@ loop-shard-init g c = record {
   room = refl;
   ticked = ticked_none c.args.engine.now c.args.tick c.args.pass.now;
   long = search rules;
-  told = λ r h. absurd (omega (arith, h));
+  reported = λ r h. absurd (omega (arith, h));
 }
 
 pub loop-shard-preserved : goal.loop-shard-preserved
@@ -23,11 +23,12 @@ loop-shard-preserved g c = record {
       c.turn.new.outs.items c.in-Ok.field-0 c.requires.number c.loop-shard.invariant.ticked c.turn.result
       c.turn.ensures.call c.in-Ok.is;
   long = omega (arith, c.in-Ok-push.ensures.len, c.loop-shard.invariant.long);
-  told = subst (HaveToldTick c.args.engine.now c.args.number c.args.tick (c.loop-shard.shard + 1) c.args.pass.now c.turn.new.pass)
+  reported = subst (HaveReportedTick c.args.engine.now c.args.number c.args.tick (c.loop-shard.shard + 1) c.args.pass.now c.turn.new.pass)
       (search rules)
-      (tick_told c.args.engine.now c.args.tick c.loop-shard.shard c.args.pass.now c.loop-shard.pass c.turn.new.pass c.turn.new.outs.items
+      (tick_reported c.args.engine.now c.args.tick c.loop-shard.shard c.args.pass.now c.loop-shard.pass c.turn.new.pass
+      c.turn.new.outs.items
       c.in-Ok.field-0 c.requires.number c.loop-shard.invariant.ticked
-      c.args.number c.loop-shard.parts.items c.turn.result c.loop-shard.invariant.long c.loop-shard.invariant.told c.turn.ensures.call
+      c.args.number c.loop-shard.parts.items c.turn.result c.loop-shard.invariant.long c.loop-shard.invariant.reported c.turn.ensures.call
       c.in-Ok.is);
 }
 

@@ -1,7 +1,7 @@
 -- The shards so far had the tick, and each reported what it gave there.
 use Rattle.std.proofs.Common.{◌≡◌, length}
 use Rattle.bfd_engine.specs.Engines.{IsOf, AllThere}
-use Rattle.bfd_replay.specs.Turning.{HaveToldTick}
+use Rattle.bfd_replay.specs.Turning.{HaveReportedTick}
 use Rattle.bfd_replay.proofs.Going.{HasTicked}
 use Rattle.bfd_replay.proofs.stream.ticking.tick_parts.Given as goal
 
@@ -12,5 +12,5 @@ invariant-loop-shard g l = record {
   room : l.outs.room ≡ l.initial.outs.room;
   ticked : HasTicked l.engine l.tick l.shard l.initial.pass l.pass;
   long : length l.parts.items ≡ l.shard;
-  told : HaveToldTick l.engine l.number l.tick l.shard l.initial.pass l.pass l.parts.items;
+  reported : HaveReportedTick l.engine l.number l.tick l.shard l.initial.pass l.pass l.parts.items;
 }

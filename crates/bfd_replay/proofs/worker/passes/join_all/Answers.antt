@@ -1,6 +1,6 @@
 -- One more pass is joined.
 use Rattle.bfd_replay.proofs.WorkerCommon.{◌≡◌, ◌∷◌, [], ap, append_assoc, append-nil, nil_from_length, Work, seen_as}
-use Rattle.bfd_replay.proofs.Ordering.{told_more}
+use Rattle.bfd_replay.proofs.Ordering.{reported_more}
 use Rattle.bfd_replay.proofs.Joining.{joined_none, joined_more, next_here}
 use Rattle.bfd_replay.proofs.worker.passes.join_all.Goals as goal
 
@@ -10,7 +10,7 @@ loop-job-init g c = record {
   ends = tt;
   all = c.into_iter-job-iterator.ensures.into_iter_gives.0;
   joined = joined_none 200000 c.args.first.now c.requires.of c.requires.there c.requires.first;
-  told = cc;
+  reported = cc;
 }
 
 pub join-requires-clause-of : goal.join-requires-clause-of
@@ -43,8 +43,9 @@ loop-job-preserved g c = let i = c.loop-job.invariant in
       joined = joined_more i.joined (c.requires.others _ _ (next_here c.loop-job.yielded c.next.new.self.rest.items c.in-Some.job
           (cc (c.in-Some.ensures.steps.0)))) c.join.ensures.of c.join.ensures.there c.join.ensures.number
           (λ s h. rw (← ap (λ (x : Work). x.pass) c.job.view_is) (c.join.ensures.joined s h));
-      told = told_more (seen_as (λ parts. parts.items)) (λ x. x.told) c.loop-job.tolds.items c.loop-job.yielded i.told
-          (ap (λ x. x.told) c.job.view_is) c.in_ok-push.ensures.items;
+      reported = reported_more (seen_as (λ parts. parts.items)) (λ x. x.reported) c.loop-job.worker_parts.items c.loop-job.yielded
+          i.reported
+          (ap (λ x. x.reported) c.job.view_is) c.in_ok-push.ensures.items;
     }
 
 pub returns-clause-joined : goal.returns-clause-joined
@@ -53,8 +54,8 @@ returns-clause-joined g c =
     cc (append-nil c.loop-job.yielded, nil_from_length c.loop-job.job-iterator.rest.items (cc (c.in-None.ensures.steps.0))) in
     rw (← whole) c.loop-job.invariant.joined
 
-pub returns-clause-told : goal.returns-clause-told
-returns-clause-told g c = let i = c.loop-job.invariant in
+pub returns-clause-reported : goal.returns-clause-reported
+returns-clause-reported g c = let i = c.loop-job.invariant in
     let whole : c.loop-job.yielded ≡ c.args.jobs.items =
     cc (append-nil c.loop-job.yielded, nil_from_length c.loop-job.job-iterator.rest.items (cc (c.in-None.ensures.steps.0))) in
     cc

@@ -8,5 +8,5 @@ invariant-loop-job g l = record {
   ends : (goal.iterator-loop-job g).is_finite l.job-iterator;
   all : l.yielded ++ l.job-iterator.rest.items ≡ l.fn.jobs.items;
   joined : AllJobsJoined l.engine 200000 l.initial.first l.first l.yielded;
-  told : map (seen_as (λ parts. parts.items)) l.tolds.items ≡ map (λ w. w.told) l.yielded;
+  reported : map (seen_as (λ parts. parts.items)) l.worker_parts.items ≡ map (λ w. w.reported) l.yielded;
 }

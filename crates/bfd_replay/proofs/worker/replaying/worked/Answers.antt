@@ -40,18 +40,18 @@ run_all-requires-clause-small g c =
 
 pub in_order-requires-clause-some : goal.in_order-requires-clause-some
 in_order-requires-clause-some g c =
-    omega (arith, c.in_ok-states.ensures.told.long, length-map c.in_ok-states.all.items (λ parts. parts.items), c.requires.workers.0)
+    omega (arith, c.in_ok-states.ensures.reported.long, length-map c.in_ok-states.all.items (λ parts. parts.items), c.requires.workers.0)
 
 pub in_order-requires-clause-wide : goal.in_order-requires-clause-wide
-in_order-requires-clause-wide g c = λ i h. c.in_ok-states.ensures.told.wide i
-    (omega (arith, c.in_ok-states.ensures.told.long, length-map c.in_ok-states.all.items (λ parts. parts.items), h))
+in_order-requires-clause-wide g c = λ i h. c.in_ok-states.ensures.reported.wide i
+    (omega (arith, c.in_ok-states.ensures.reported.long, length-map c.in_ok-states.all.items (λ parts. parts.items), h))
     ∙ c.in_ok-engine.ensures.shards ∙ c.in_ok-made.ensures.new.long
 
 pub returns-clause-parts : goal.returns-clause-parts
 returns-clause-parts g c = are_parts c.in_ok-parts.parts.items c.requires.shards.0
     (cc (c.in_ok-engine.ensures.shards, c.in_ok-made.ensures.new.long))
     (configs_are c.in_ok-engine.ensures.configs c.in_ok-made.ensures.planned.table)
-    c.requires.table.configs.ascends c.in_ok-made.ensures.planned.queues c.in_ok-states.ensures.told c.in_ok-parts.ensures.long
+    c.requires.table.configs.ascends c.in_ok-made.ensures.planned.queues c.in_ok-states.ensures.reported c.in_ok-parts.ensures.long
     (λ s h. cc (c.in_ok-parts.ensures.each s h, length-map c.in_ok-states.all.items (λ parts. parts.items)))
     c.in_ok-parts.ensures.last c.in_ok-made.ensures.planned.apart
 

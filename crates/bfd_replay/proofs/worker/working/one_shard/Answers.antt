@@ -12,7 +12,7 @@ events-preserved g c =
       there = c.one_event.ensures.there;
       met = (subst (AreMet c.args.engine.now c.args.shard) split i.met).1;
       room = cc;
-      did = queue_more split i.did c.one_event.ensures.elsewhere c.one_event.ensures.taken c.in-Ok.ensures.told;
+      did = queue_more split i.did c.one_event.ensures.elsewhere c.one_event.ensures.taken c.in-Ok.ensures.reported;
     }
 
 pub returns-in-Err-clause-stopped : goal.returns-in-Err-clause-stopped

@@ -8,8 +8,8 @@ invariant-loop-link g l = record {
   finite : (goal.iterator-loop-link g).is_finite l.link-iterator;
   all : l.yielded ++ l.link-iterator.rest.items ≡ l.fn.links.items;
   number : l.number ≡ length l.yielded + 1;
-  opened : (n : ℕ) → (g.P.Ports.told l.ports).opened n ≡ (g.P.Ports.told l.fn.ports).opened n;
-  faults : (g.P.Ports.told l.ports).faults ≡ (g.P.Ports.told l.fn.ports).faults;
-  shut : (n : ℕ) → n ≤ length l.yielded → (g.P.Ports.told l.ports).shut n
-      ≡ Some (g.P.Link.Link.told (slice_index_or (l.fn.own ∷ l.yielded) n l.fn.own));
+  opened : (n : ℕ) → (g.P.Ports.observed l.ports).opened n ≡ (g.P.Ports.observed l.fn.ports).opened n;
+  faults : (g.P.Ports.observed l.ports).faults ≡ (g.P.Ports.observed l.fn.ports).faults;
+  shut : (n : ℕ) → n ≤ length l.yielded → (g.P.Ports.observed l.ports).shut n
+      ≡ Some (g.P.Link.Link.observed (slice_index_or (l.fn.own ∷ l.yielded) n l.fn.own));
 }

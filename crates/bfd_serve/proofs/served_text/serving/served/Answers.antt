@@ -15,7 +15,7 @@ loop-configs-preserved g c =
     record {
       fit = next_fit (λ part. part.items) split i.fit;
       made = other_parts ss at c.in-Some.configs.items (map (λ part. part.items) c.next.new.self.rest.items) made d;
-      text = text_next ss at d inside c.index-states-shard.is c.loop-configs.text.items c.tell_shard.new.text.items _ i.text
+      text = text_next ss at d inside c.index-states-shard.is c.loop-configs.text.items c.write_shard.new.text.items _ i.text
           c.in_ok-sent.ensures.text;
       entries = sum_next ss at d inside c.index-states-shard.is (λ history. length history.journal) c.loop-configs.entries
           (length c.journal.result.now) _ i.entries (ap length c.journal.ensures);

@@ -1,5 +1,5 @@
 -- The sessions at the start have the configurations that were given.
-use Rattle.bfd_watch.proofs.Telling.{made}
+use Rattle.bfd_watch.proofs.ChangeLines.{made}
 use Rattle.bfd_watch.proofs.watch.Watch.make.Goals as goal
 
 pub returns : goal.returns

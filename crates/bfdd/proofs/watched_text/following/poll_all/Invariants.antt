@@ -7,5 +7,6 @@ abbrev pub invariant-loop-shard : goal.invariant-loop-shard
 invariant-loop-shard g l = record {
   of : IsOf l.engine l.pass.1;
   there : AllThere l.pass.1;
-  polled : HasPolled l.engine l.engine.limit l.number l.shard l.initial.pass l.pass l.initial.watches.items l.watches.items l.told.items;
+  polled : HasPolled l.engine l.engine.limit l.number l.shard l.initial.pass l.pass l.initial.watches.items l.watches.items
+      l.reported.items;
 }

@@ -1,5 +1,0 @@
--- The counter is the blank's own.
-use Rattle.bfd_serve.proofs.served_text.telling.tell_entry.Given as goal
-
-abbrev pub ghosts-follow : goal.ghosts-follow
-ghosts-follow g a = record { name = a.blank.name; parts = a.blank.parts }
