@@ -40,7 +40,8 @@ set_keeps (r ∷ rs) (suc place) d f keeps = ap (λ ks. r.kind ∷ ks) (set_keep
 pub change_keeps : (place : Option ℕ) (change : ℕ → Record → Record) (w : World) (rs : List Record) → KeepsKind change
     → kinds_in (changed_at place change w rs) ≡ kinds_in rs
 change_keeps None change w rs keeps = refl
-change_keeps (Some place) change w rs keeps = set_keeps rs place (blank kinds.Pair) (change (moment_at w place)) (keeps (moment_at w place))
+change_keeps (Some place) change w rs keeps = set_keeps rs place (blank kinds.PointToPoint) (change (moment_at w place))
+    (keeps (moment_at w place))
 
 entered_keeps : (state : State) (r : Record) → (entered state r).kind ≡ r.kind
 entered_keeps AdminDown r = refl

@@ -8,7 +8,7 @@ use Rattle.bfd_rules.specs.declared.config.Role.{Role}
 use Rattle.bfd_rules.specs.declared.config.Role.TheVariants.{Single, Multi}
 use Rattle.bfd_rules.specs.Sound.{is_interval, is_echo_interval}
 use Rattle.bfd_session.specs.declared.event.SessionConfig.{SessionConfig}
-use Rattle.bfd_session.specs.declared.event.SessionConfig.TheVariants.{Pair, Initiator, Head, Tail}
+use Rattle.bfd_session.specs.declared.event.SessionConfig.TheVariants.{PointToPoint, Initiator, Head, Tail}
 use Rattle.bfd_script.specs.Secrets.{kind_by, one_key}
 use Rattle.bfd_c.specs.declared.fields.Fields.{Fields}
 use Rattle.bfd_c.specs.Wire.{addr_of}
@@ -42,8 +42,8 @@ abbrev pub is_paired : Role → Fields → Bool
 is_paired role f = nat_lt f.active 2 && (is_interval f.rx && is_echo_interval role f.echo)
 
 -- a point-to-point session (RFC 5881, RFC 5883)
-abbrev pub pair_by_fields : Role → Fields → Addr → Addr → Option KeyChain → SessionConfig
-pair_by_fields role f local remote keys = Pair (record {
+abbrev pub point_by_fields : Role → Fields → Addr → Addr → Option KeyChain → SessionConfig
+point_by_fields role f local remote keys = PointToPoint (record {
   discr = f.discr;
   role = role;
   iface = f.iface;
@@ -58,10 +58,10 @@ pair_by_fields role f local remote keys = Pair (record {
   keys = keys;
 })
 
-abbrev pub pair_by : Role → Fields → Option Addr → Option Addr → Option (Option KeyChain) → Option SessionConfig
-pair_by role f (Some local) (Some remote) (Some keys) =
-    if has_name f && (has_sending f && is_paired role f) then Some (pair_by_fields role f local remote keys) else None
-pair_by role f local remote keys = None
+abbrev pub point_by : Role → Fields → Option Addr → Option Addr → Option (Option KeyChain) → Option SessionConfig
+point_by role f (Some local) (Some remote) (Some keys) =
+    if has_name f && (has_sending f && is_paired role f) then Some (point_by_fields role f local remote keys) else None
+point_by role f local remote keys = None
 
 -- an initiator; `other` is the reflector's discriminator (RFC 7880)
 abbrev pub initiator_by_fields : Fields → Addr → Addr → SessionConfig
@@ -129,6 +129,6 @@ unkeyed_by f =
 -- the session of the fields, by the number of its kind
 abbrev pub config_of : Fields → Option SessionConfig
 config_of f =
-    if f.kind == 1 then pair_by Single f (addr_of f.local) (addr_of f.remote) (keys_from_c f)
-    else if f.kind == 2 then pair_by Multi f (addr_of f.local) (addr_of f.remote) (keys_from_c f)
+    if f.kind == 1 then point_by Single f (addr_of f.local) (addr_of f.remote) (keys_from_c f)
+    else if f.kind == 2 then point_by Multi f (addr_of f.local) (addr_of f.remote) (keys_from_c f)
     else unkeyed_by f

@@ -16,7 +16,7 @@ use Rattle.bfd_packet.specs.Layout.{fields_of}
 use Rattle.bfd_rules.specs.declared.outputs.Out.{Out}
 use Rattle.bfd_rules.specs.declared.outputs.Out.TheVariants.{Changed, Sent}
 use Rattle.bfd_session.specs.declared.event.SessionConfig.{SessionConfig}
-use Rattle.bfd_session.specs.declared.event.SessionConfig.TheVariants.{Pair, Initiator, Head, Tail}
+use Rattle.bfd_session.specs.declared.event.SessionConfig.TheVariants.{PointToPoint, Initiator, Head, Tail}
 use Rattle.bfd_session.specs.declared.event.Answer.{Answer}
 use Rattle.bfd_session.specs.declared.event.Answer.TheVariants.{Dropped}
 use Rattle.bfd_session.specs.Changes.{place_for}
@@ -64,7 +64,7 @@ test_number EchoStale = 24
 
 -- the kind of a session
 abbrev pub session_kind : SessionConfig → Kind
-session_kind (Pair c) = kinds.Pair
+session_kind (PointToPoint c) = kinds.PointToPoint
 session_kind (Initiator c) = kinds.Initiator
 session_kind (Head c) = kinds.Head
 session_kind (Tail c) = kinds.Tail
@@ -155,7 +155,7 @@ moment_at w place = moment_of w.last (slice_get w.sessions place)
 abbrev pub changed_at : Option ℕ → (ℕ → Record → Record) → World → List Record → List Record
 changed_at None change w rs = rs
 changed_at (Some place) change w rs =
-    slice_set rs place (change (moment_at w place) (slice_index_or rs place (blank kinds.Pair)))
+    slice_set rs place (change (moment_at w place) (slice_index_or rs place (blank kinds.PointToPoint)))
 
 -- whose an output is
 abbrev pub giver : Out → ℕ

@@ -144,7 +144,7 @@ fn paired(role: Role, f: &Fields) -> bool
 }
 
 /// A point-to-point session of values in their ranges.
-fn pair_by_fields(
+fn point_by_fields(
     role: Role,
     f: Fields,
     local: Addr,
@@ -157,10 +157,10 @@ fn pair_by_fields(
     requires local { IsAddress local }
     requires remote { IsAddress remote }
     requires keys { AreKeys keys }
-    ensures value { result ≡ fields.pair_by_fields role f local remote keys }
+    ensures value { result ≡ fields.point_by_fields role f local remote keys }
     ensures sound { IsInRanges result }
 {
-    SessionConfig::Pair(Config {
+    SessionConfig::PointToPoint(Config {
         discr: f.discr,
         role,
         iface: f.iface,
@@ -179,7 +179,7 @@ fn pair_by_fields(
 /// A point-to-point session.
 fn pair(role: Role, f: &Fields) -> Option<SessionConfig>
     ensures value { result
-        ≡ fields.pair_by role f.now (addr_of f.now.local) (addr_of f.now.remote) (keys_from_c f.now) }
+        ≡ fields.point_by role f.now (addr_of f.now.local) (addr_of f.now.remote) (keys_from_c f.now) }
     ensures sound { IfSome result IsInRanges }
 {
     let (Some(local), Some(remote), Some(keys)) = (
@@ -192,7 +192,7 @@ fn pair(role: Role, f: &Fields) -> Option<SessionConfig>
     if !(has_name(f) && has_sending(f) && paired(role, f)) {
         return None;
     }
-    Some(pair_by_fields(role, *f, local, remote, keys))
+    Some(point_by_fields(role, *f, local, remote, keys))
 }
 
 /// An initiator of values in their ranges.

@@ -11,7 +11,7 @@ use Rattle.bfd_packet.specs.declared.control.State.TheVariants.{Init, Up}
 use Rattle.bfd_packet.specs.Layout.{text_of}
 use Rattle.bfd_rules.specs.declared.config.Role.TheVariants.{Single}
 use Rattle.bfd_session.specs.declared.event.SessionConfig.{SessionConfig}
-use Rattle.bfd_session.specs.declared.event.SessionConfig.TheVariants.{Pair}
+use Rattle.bfd_session.specs.declared.event.SessionConfig.TheVariants.{PointToPoint}
 use Rattle.bfd_script.specs.declared.line.entries.Line.{Line}
 use Rattle.bfd_script.specs.declared.line.entries.Line.TheVariants.{Rx, Tick}
 use Rattle.bfd_script.specs.Reading.{Lists}
@@ -30,7 +30,7 @@ remote i = V4 (167837696 + i)
 
 -- session i: active, over interface 1, with intervals of 300,000 microseconds, Detect Mult 3, no Echo function and no keys
 abbrev pub config : ℕ → ℕ → SessionConfig
-config seed i = Pair (record {
+config seed i = PointToPoint (record {
   discr = i;
   role = Single;
   iface = 1;

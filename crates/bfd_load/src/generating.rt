@@ -34,7 +34,7 @@ fn config(seed: u32, i: u32) -> SessionConfig
     requires { i ≤ 5000 }
     ensures { result ≡ load.config seed i }
 {
-    SessionConfig::Pair(Config {
+    SessionConfig::PointToPoint(Config {
         discr: i,
         role: Role::Single,
         iface: 1,

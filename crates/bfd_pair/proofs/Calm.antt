@@ -2,7 +2,8 @@
 use Rattle.bfd_pair.proofs.Common.{◌≡◌, inl, inr, ◌++◌, not, ℕ, Bool, true, false, List, [], ◌∷◌, refl, Option, None, Some, Result, Ok, Err}
 use Rattle.bfd_pair.proofs.Common.{if◌then◌else◌, both_ways, not-true, or_from, or_parts, Arrival, Control, State, AdminDown, Down, Init}
 use Rattle.bfd_pair.proofs.Common.{Up, Test, SeqState, fields_of, is_init_or_up, Cmd, Config, Out, Mark, Vars, is_up, same_state, Course}
-use Rattle.bfd_pair.proofs.Common.{course, changes, sends, changed_between, transmits, SessionConfig, Pair, Packet, Command, Running, Flow}
+use Rattle.bfd_pair.proofs.Common.{course, changes, sends, changed_between, transmits, SessionConfig, PointToPoint, Packet, Command}
+use Rattle.bfd_pair.proofs.Common.{Running, Flow}
 use Rattle.bfd_pair.proofs.Common.{begun}
 use Rattle.bfd_pair.proofs.Common.{settled, acted, finished, step, step_from, stepped_flow, tick, tick_from, ticked_flow, next, emits}
 use Rattle.bfd_pair.proofs.Common.{tick_next, tick_emits, reports_up, Changed, Sent, Echo}
@@ -87,18 +88,20 @@ echo_calm c limit eff f h = running_calm c limit eff _ f h
 
 settled_calm : {was : Bool} (c : SessionConfig) (limit eff : ℕ) (f : Flow) → IsPoint c → Calm was f.course
     → Calm was (settled c limit eff f).course
-settled_calm {was} (Pair c) limit eff f p h = echo_calm c limit eff _
+settled_calm {was} (PointToPoint c) limit eff f p h = echo_calm c limit eff _
     (settle_keeps (Calm was) low_state (calm_still was) (calm_goes was) (calm_puts was) refl refl c limit eff _ h)
 settled_calm c limit eff f p h = absurd p
 
 finished_calm : {was : Bool} (c : SessionConfig) (eff : ℕ) (f : Flow) → IsPoint c → Calm was f.course → Calm was (finished c eff f).course
-finished_calm {was} (Pair c) eff f p h = finish_keeps (Calm was) low_state (calm_still was) (calm_goes was) (calm_puts was) refl refl c eff
+finished_calm {was} (PointToPoint c) eff f p h = finish_keeps (Calm was) low_state (calm_still was) (calm_goes was) (calm_puts was) refl
+    refl c eff
     _ h
 finished_calm c eff f p h = absurd p
 
 ordered_calm : {was : Bool} (c : SessionConfig) (eff : ℕ) (cmd : Cmd) (f : Flow) → IsPoint c → Calm was f.course
     → Calm was (acted c eff (Command cmd) f).course
-ordered_calm {was} (Pair c) eff cmd f p h = commanded_keeps (Calm was) low_state (calm_still was) (calm_goes was) (calm_puts was) refl refl
+ordered_calm {was} (PointToPoint c) eff cmd f p h =
+    commanded_keeps (Calm was) low_state (calm_still was) (calm_goes was) (calm_puts was) refl refl
     c eff cmd _ h
 ordered_calm c eff cmd f p h = absurd p
 
@@ -112,7 +115,7 @@ received_calm c eff packet (Err test) low h = h
 acted_calm : {was : Bool} (c : SessionConfig) (eff : ℕ) (arrival : Arrival) (f : Flow) → IsPoint c
     → is_init_or_up (fields_of arrival.payload).state ≡ false → Calm was f.course → Calm was (acted c eff (Packet arrival) f).course
 unfolding receiving.received
-acted_calm (Pair c) eff arrival f p low h = received_calm c eff (fields_of arrival.payload) _ low h
+acted_calm (PointToPoint c) eff arrival f p low h = received_calm c eff (fields_of arrival.payload) _ low h
 acted_calm c eff arrival f p low h = absurd p
 
 tick_calm : (s : Running) (limit eff : ℕ) → IsPoint s.config → Calm (is_up s.vars.state) (tick_from limit eff s []).course

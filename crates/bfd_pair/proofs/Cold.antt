@@ -3,7 +3,8 @@ use Rattle.bfd_pair.proofs.Common.{◌≡◌, inl, inr, ◌++◌, not, ℕ, Bool
 use Rattle.bfd_pair.proofs.Common.{Err, if◌then◌else◌, not-true, Arrival, Control, State, Init, Up, Test, SeqState, fields_of}
 use Rattle.bfd_pair.proofs.Common.{is_init_or_up, Cmd, Config, Out, Mark, Vars, is_admin_down, is_up, Course, course, changes, sends}
 use Rattle.bfd_pair.proofs.Common.{changed_between}
-use Rattle.bfd_pair.proofs.Common.{transmits, packet_bytes, packet_of, SessionConfig, Pair, Packet, Command, Running, Flow, begun, settled}
+use Rattle.bfd_pair.proofs.Common.{transmits, packet_bytes, packet_of, SessionConfig, PointToPoint, Packet, Command, Running, Flow, begun}
+use Rattle.bfd_pair.proofs.Common.{settled}
 use Rattle.bfd_pair.proofs.Common.{acted, finished, step, step_from, stepped_flow, tick, tick_from, ticked_flow, next, emits, tick_next}
 use Rattle.bfd_pair.proofs.Common.{tick_emits, reply, answer_of, answer_to_packet, packets_among, renewed_state, Echo, Answer, Handled}
 use Rattle.std.proofs.Math.Bool.{and-false}
@@ -85,16 +86,16 @@ unfolding settles_echo
 echo_cold c limit eff f h = rw (no_echo c f.course.vars f.echo h.state) h
 
 settled_cold : (c : SessionConfig) (limit eff : ℕ) (f : Flow) → IsPoint c → Cold f.course → Cold (settled c limit eff f).course
-settled_cold (Pair c) limit eff f p h = echo_cold c limit eff _
+settled_cold (PointToPoint c) limit eff f p h = echo_cold c limit eff _
     (settle_keeps Cold cold_state cold_still cold_goes cold_puts refl refl c _ eff _ h)
 settled_cold c limit eff f p h = absurd p
 
 finished_cold : (c : SessionConfig) (eff : ℕ) (f : Flow) → IsPoint c → Cold f.course → Cold (finished c eff f).course
-finished_cold (Pair c) eff f p h = finish_keeps Cold cold_state cold_still cold_goes cold_puts refl refl c eff _ h
+finished_cold (PointToPoint c) eff f p h = finish_keeps Cold cold_state cold_still cold_goes cold_puts refl refl c eff _ h
 finished_cold c eff f p h = absurd p
 
 ordered_cold : (c : SessionConfig) (eff : ℕ) (cmd : Cmd) (f : Flow) → IsPoint c → Cold f.course → Cold (acted c eff (Command cmd) f).course
-ordered_cold (Pair c) eff cmd f p h = commanded_keeps Cold cold_state cold_still cold_goes cold_puts refl refl c eff cmd _ h
+ordered_cold (PointToPoint c) eff cmd f p h = commanded_keeps Cold cold_state cold_still cold_goes cold_puts refl refl c eff cmd _ h
 ordered_cold c eff cmd f p h = absurd p
 
 tick_cold : (s : Running) (limit eff : ℕ) → IsPoint s.config → is_init_or_up s.vars.state ≡ false → Cold (tick_from limit eff s []).course
@@ -158,7 +159,7 @@ unhandled_cold c eff packet (Err test) refused h = h
 acted_cold : (c : SessionConfig) (eff : ℕ) (arrival : Arrival) (f : Flow) → IsPoint c
     → is_handled (answer_of c (Packet arrival) f) ≡ false → Cold f.course → Cold (acted c eff (Packet arrival) f).course
 unfolding receiving.received
-acted_cold (Pair c) eff arrival f p refused h =
+acted_cold (PointToPoint c) eff arrival f p refused h =
     unhandled_cold c eff (fields_of arrival.payload) (receiving.judged c f.course.vars arrival.ttl arrival.payload) refused h
 acted_cold c eff arrival f p refused h = absurd p
 

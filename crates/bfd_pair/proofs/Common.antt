@@ -40,7 +40,7 @@ pub use Rattle.bfd_session.specs.Step.{sound_by, started, step_from, tick_from, 
 unfoldable pub use Rattle.bfd_session.specs.Step.{emits, reply, step, stepped_flow, tick, tick_emits, ticked_flow}
 pub use Rattle.bfd_session.specs.declared.event.Event.TheVariants.{Command, Packet}
 pub use Rattle.bfd_session.specs.declared.event.SessionConfig.{SessionConfig}
-pub use Rattle.bfd_session.specs.declared.event.SessionConfig.TheVariants.{Pair}
+pub use Rattle.bfd_session.specs.declared.event.SessionConfig.TheVariants.{PointToPoint}
 pub use Rattle.bfd_rules.specs.declared.outputs.Out.TheVariants.{Changed, Sent}
 pub use Rattle.bfd_echo.specs.declared.echo.Echo.{Echo}
 pub use Rattle.bfd_session.specs.declared.event.Answer.{Answer}

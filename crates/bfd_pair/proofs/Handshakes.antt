@@ -1,6 +1,7 @@
 -- A side goes to Up only by a handshake.
 use Rattle.bfd_pair.proofs.Common.{◌≡◌, ◌⊎◌, inl, inr, ◌++◌, ◌*◌, max, ℕ, Bool, true, false, List, [], ◌∷◌, length, refl, Option, None}
-use Rattle.bfd_pair.proofs.Common.{Some, both_ways, Arrival, Test, fields_of, is_init_or_up, Config, is_up, SessionConfig, Pair, discr_of}
+use Rattle.bfd_pair.proofs.Common.{Some, both_ways, Arrival, Test, fields_of, is_init_or_up, Config, is_up, SessionConfig, PointToPoint}
+use Rattle.bfd_pair.proofs.Common.{discr_of}
 use Rattle.bfd_pair.proofs.Common.{Side, Left, Right, PairEvent, Tick, Give, Order, End, Both, Move, other, side_of, items_of, packet_at}
 use Rattle.bfd_pair.proofs.Common.{arrival_to, screened, judged_move, comes, given_packet, pair_run, turn, IsHandshake, reports_up}
 use Rattle.bfd_pair.proofs.Common.{is_up_after, effective}
@@ -125,11 +126,12 @@ module _ (left right : SessionConfig) (l : IsPoint left) (r : IsPoint right) whe
 -- the same of two point-to-point sessions
 
 pub pair_handshakes : (left right : Config) (past : List PairEvent) (event : PairEvent) (side : Side)
-    → reports_up (items_of side (turn event (pair_run (Pair left) (Pair right) past))) ≡ true
-    → IsHandshake (Pair left) (Pair right) side event past
-pair_handshakes left right past event side up = handshakes (Pair left) (Pair right) tt tt past event side up
+    → reports_up (items_of side (turn event (pair_run (PointToPoint left) (PointToPoint right) past))) ≡ true
+    → IsHandshake (PointToPoint left) (PointToPoint right) side event past
+pair_handshakes left right past event side up = handshakes (PointToPoint left) (PointToPoint right) tt tt past event side up
 
 pub pair_comes_up : (left right : Config) (past : List PairEvent) (event : PairEvent) (side : Side)
-    → is_up_after (Pair left) (Pair right) side past ≡ false → is_up_after (Pair left) (Pair right) side (past ++ event ∷ []) ≡ true
-    → IsHandshake (Pair left) (Pair right) side event past
-pair_comes_up left right past event side low up = comes_up (Pair left) (Pair right) tt tt past event side low up
+    → is_up_after (PointToPoint left) (PointToPoint right) side past ≡ false
+    → is_up_after (PointToPoint left) (PointToPoint right) side (past ++ event ∷ []) ≡ true
+    → IsHandshake (PointToPoint left) (PointToPoint right) side event past
+pair_comes_up left right past event side low up = comes_up (PointToPoint left) (PointToPoint right) tt tt past event side low up

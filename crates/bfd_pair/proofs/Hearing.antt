@@ -1,7 +1,8 @@
 -- A side in Init or Up, and each packet in Init or Up that it has sent, come after it handled a packet of the other side.
 use Rattle.bfd_pair.proofs.Common.{◌≡◌, ◌⊎◌, inl, inr, ◌++◌, ◌==◌, ◌-◌, ◌<◌, ◌≤◌, ℕ, Bool, true, false, List, [], ◌∷◌, length}
 use Rattle.bfd_pair.proofs.Common.{length-append, refl, sym, ap, ◌∙◌, arith, append_assoc, append-nil, Some, slice_get, both_ways}
-use Rattle.bfd_pair.proofs.Common.{fields_of, is_init_or_up, SessionConfig, Pair, started, Side, Left, Right, PairEvent, Give, End, Both}
+use Rattle.bfd_pair.proofs.Common.{fields_of, is_init_or_up, SessionConfig, PointToPoint, started, Side, Left, Right, PairEvent, Give, End}
+use Rattle.bfd_pair.proofs.Common.{Both}
 use Rattle.bfd_pair.proofs.Common.{side_of, packet_at, both_after, pair_run, turn, Heard, sent_by_then, drawn_state, nat_tests}
 use Rattle.bfd_p2p.specs.Machine.{made as pair_made}
 use Rattle.bfd_pair.proofs.Points.{IsPoint, run_point}
@@ -117,7 +118,7 @@ reported_step left right side past event p t = elim (hears_or_quiet (pair_run le
 
 started_cold : (config : SessionConfig) → IsPoint config → is_init_or_up (started config).vars.state ≡ false
 unfolding pair_made
-started_cold (Pair c) p = ap is_init_or_up (drawn_state c.active _ _)
+started_cold (PointToPoint c) p = ap is_init_or_up (drawn_state c.active _ _)
 started_cold config p = absurd p
 
 module _ (left right : SessionConfig) (l : IsPoint left) (r : IsPoint right) where

@@ -1,6 +1,7 @@
 -- A packet that fails no test up to selection over a session's one row: the session accepts it, and in Init or Up it names the session.
 use Rattle.bfd_pair.proofs.Common.{◌≡◌, ◌==◌, ◌&&◌, ◌||◌, ◌++◌, not, ℕ, Bool, true, false, List, [], ◌∷◌, refl, None, Some, if◌then◌else◌}
-use Rattle.bfd_pair.proofs.Common.{arith, find, Arrival, Test, fields_of, is_init_or_up, Config, SessionConfig, Pair, Packet, discr_of}
+use Rattle.bfd_pair.proofs.Common.{arith, find, Arrival, Test, fields_of, is_init_or_up, Config, SessionConfig, PointToPoint, Packet}
+use Rattle.bfd_pair.proofs.Common.{discr_of}
 use Rattle.bfd_pair.proofs.Common.{CanTake, arrival_to, screened, nat_tests, first_header_failing, first_table_failing, first_failing_on}
 use Rattle.bfd_pair.proofs.Common.{is_multipoint, table_fails, tests_on_header, kind_of, row_of}
 use Rattle.bfd_packet.specs.declared.arrival.Addr.{Addr}
@@ -73,15 +74,17 @@ same_arrival e = cc
 
 pub way_payload : (config : SessionConfig) (bytes : List ℕ) {arrival : Arrival} → arrival_to config bytes ≡ Some arrival
     → arrival.payload ≡ bytes
-way_payload (Pair c) bytes is = cc (same_arrival is)
+way_payload (PointToPoint c) bytes is = cc (same_arrival is)
 way_payload config bytes is = cc
 
-way_port : (c : Config) {bytes : List ℕ} {arrival : Arrival} → arrival_to (Pair c) bytes ≡ Some arrival → arrival.port ≡ port_of c.role
+way_port : (c : Config) {bytes : List ℕ} {arrival : Arrival} → arrival_to (PointToPoint c) bytes ≡ Some arrival
+    → arrival.port ≡ port_of c.role
 way_port c is = cc (same_arrival is)
 
 pub names : (config : SessionConfig) (bytes : List ℕ) {arrival : Arrival} → arrival_to config bytes ≡ Some arrival
     → is_init_or_up (fields_of bytes).state ≡ true → screened config arrival ≡ None → (fields_of bytes).your ≡ discr_of config
-names (Pair c) bytes {arrival} is state h = cc (names_by c.role c.discr c.iface c.local c.remote arrival (cc) (rw (← way_port c is) h))
+names (PointToPoint c) bytes {arrival} is state h =
+    cc (names_by c.role c.discr c.iface c.local c.remote arrival (cc) (rw (← way_port c is) h))
 names config bytes is state h = cc
 
 -- the session accepts it
@@ -100,7 +103,7 @@ header_by Multi payload h = h
 
 pub takes : (config : SessionConfig) {arrival : Arrival} → arrival_to config arrival.payload ≡ Some arrival
     → first_header_failing arrival ≡ None → first_table_failing (row_of config ∷ []) arrival ≡ None → CanTake config (Packet arrival)
-takes (Pair c) {arrival} is header none =
+takes (PointToPoint c) {arrival} is header none =
     let port = way_port c is in
     record {
       port = port;

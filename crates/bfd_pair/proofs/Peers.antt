@@ -1,6 +1,7 @@
 -- A side of the program as a side of the definitions.
 use Rattle.bfd_pair.proofs.Common.{◌≡◌, ◌≤◌, ◌<◌, ◌-◌, ◌++◌, ℕ, List, [], ◌∷◌, length, take, drop, ap, arith, None, Some, moment_bound}
-use Rattle.bfd_pair.proofs.Common.{Arrival, Config, Out, SessionConfig, Pair, Packet, Running, IsFit, IsSound, CanTake, sound_by, started}
+use Rattle.bfd_pair.proofs.Common.{Arrival, Config, Out, SessionConfig, PointToPoint, Packet, Running, IsFit, IsSound, CanTake, sound_by}
+use Rattle.bfd_pair.proofs.Common.{started}
 use Rattle.bfd_pair.proofs.Common.{Peer, arrival_to, packets_among, arrives, comes, seen, by_way, IsPeer, first_header_failing}
 use Rattle.bfd_pair.proofs.Common.{first_table_failing, row_of}
 use Rattle.std.proofs.lemmas.List.{take_all, length-drop}
@@ -16,8 +17,8 @@ pub no_fault : (config : SessionConfig) → IsFit config → build_fault (row_of
 no_fault config fit = no_faults (config ∷ []) (tt, tt) (tt, tt) (fit, tt) (omega arith)
 
 -- a side at the start
-pub opened_peer : (p : Peer) {config : Config} → p.session ≡ started (Pair config) → p.table ≡ row_of (Pair config) ∷ []
-    → ((bytes : List ℕ) → arrival_to (Pair config) bytes ≡ Some (by_way p.way bytes)) → IsPeer p
+pub opened_peer : (p : Peer) {config : Config} → p.session ≡ started (PointToPoint config) → p.table ≡ row_of (PointToPoint config) ∷ []
+    → ((bytes : List ℕ) → arrival_to (PointToPoint config) bytes ≡ Some (by_way p.way bytes)) → IsPeer p
 opened_peer p is table way = record {
   table = cc;
   way = λ bytes. cc (way bytes);
@@ -50,7 +51,7 @@ comes_by p moment last arrival bytes peer is = cc (peer.way bytes)
 
 -- the last own event of a side was at a moment
 at_by : (config : SessionConfig) (s : Running) → IsPoint config → sound_by config s → s.vars.at < moment_bound
-at_by (Pair c) s p sound = sound.vars.steady.plain.at_below
+at_by (PointToPoint c) s p sound = sound.vars.steady.plain.at_below
 at_by config s p sound = absurd p
 
 pub at_below : (p : Peer) → IsPeer p → IsSound p.session → p.session.vars.at < moment_bound

@@ -1,7 +1,7 @@
 -- An event of the schedule leaves what the schedule with it makes.
 use Rattle.std.proofs.Common.{◌≡◌, ◌≤◌, ◌+◌, ◌++◌, ℕ, suc, List, [], ◌∷◌, length, refl, sym, ap, ◌∙◌, arith}
 use Rattle.bfd_num.specs.Numbers.{next_j}
-use Rattle.bfd_session.specs.declared.event.SessionConfig.TheVariants.{Pair}
+use Rattle.bfd_session.specs.declared.event.SessionConfig.TheVariants.{PointToPoint}
 use Rattle.bfd_pair.specs.declared.event.PairEvent.{PairEvent}
 use Rattle.bfd_pair.specs.Run.{Both, PairTurn, pair_run, turn}
 use Rattle.bfd_pair.specs.Inside.{Pairing}
@@ -12,7 +12,7 @@ use Rattle.bfd_pair.specs.Playing.{IsPlayed}
 use Rattle.bfd_pair.proofs.Totals.{total_more, length_schedule}
 
 -- at the start nothing was played
-pub starts : {seed : ℕ} {p : Pairing} → p ≡ record { left = Pair (left seed); right = Pair (right seed); past = [] }
+pub starts : {seed : ℕ} {p : Pairing} → p ≡ record { left = PointToPoint (left seed); right = PointToPoint (right seed); past = [] }
     → IsPlayed seed 0 p (record { draw = seed; given = 0; rises = 0 })
 unfolding schedule draw total_over
 starts is = record {

@@ -1,16 +1,16 @@
 -- The sessions of a pair are point-to-point ones, and stay so: no event changes a configuration.
 use Rattle.bfd_pair.proofs.Common.{◌≡◌, ℕ, List, [], ◌∷◌, refl, sym, ◌∙◌, subst, length, Option, None, Some, Arrival, Test, SessionConfig}
-use Rattle.bfd_pair.proofs.Common.{Pair, Side, Left, Right, PairEvent, Tick, Give, Order, End, Both, side_of, packet_at, arrival_to}
+use Rattle.bfd_pair.proofs.Common.{PointToPoint, Side, Left, Right, PairEvent, Tick, Give, Order, End, Both, side_of, packet_at, arrival_to}
 use Rattle.bfd_pair.proofs.Common.{screened, judged_move, comes, given_packet, opened_side, both_after, pair_run, turn}
 
 -- a point-to-point session's configuration
 abbrev pub IsPoint : SessionConfig → Type 0
-IsPoint (Pair c) = Unit {0}
+IsPoint (PointToPoint c) = Unit {0}
 IsPoint _ = ⊥
 
 -- only to such a session a packet is on its way
 pub way_point : (config : SessionConfig) (bytes : List ℕ) {arrival : Arrival} → arrival_to config bytes ≡ Some arrival → IsPoint config
-way_point (Pair c) bytes is = tt
+way_point (PointToPoint c) bytes is = tt
 way_point config bytes is = cc
 
 -- no event changes a configuration

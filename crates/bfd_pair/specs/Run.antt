@@ -7,7 +7,7 @@ use Rattle.bfd_rules.specs.declared.outputs.Out.{Out}
 use Rattle.bfd_rules.specs.declared.outputs.Out.TheVariants.{Changed, Sent}
 use Rattle.bfd_p2p.specs.Port.{port_of}
 use Rattle.bfd_session.specs.declared.event.SessionConfig.{SessionConfig}
-use Rattle.bfd_session.specs.declared.event.SessionConfig.TheVariants.{Pair}
+use Rattle.bfd_session.specs.declared.event.SessionConfig.TheVariants.{PointToPoint}
 use Rattle.bfd_session.specs.declared.event.Event.{Event}
 use Rattle.bfd_session.specs.declared.event.Event.TheVariants.{Packet, Command}
 use Rattle.bfd_session.specs.declared.event.Answer.TheVariants.{Ticked, Dropped}
@@ -73,7 +73,7 @@ packet_at number sent = if number == 0 then None else slice_get sent (number - 1
 -- with the TTL that it was sent with (RFC 5881 sections 4 and 5, RFC 5883 section 5); the two are point-to-point sessions, and
 -- to one of another kind nothing is on its way
 abbrev pub arrival_to : SessionConfig → List ℕ → Option Arrival
-arrival_to (Pair c) bytes = Some (record {
+arrival_to (PointToPoint c) bytes = Some (record {
   port = port_of c.role;
   iface = c.iface;
   src = c.remote;

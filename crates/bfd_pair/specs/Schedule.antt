@@ -5,7 +5,7 @@ use Rattle.bfd_packet.specs.declared.arrival.Addr.{Addr}
 use Rattle.bfd_packet.specs.declared.arrival.Addr.TheVariants.{V4}
 use Rattle.bfd_rules.specs.declared.config.Config.{Config}
 use Rattle.bfd_rules.specs.declared.config.Role.TheVariants.{Single}
-use Rattle.bfd_session.specs.declared.event.SessionConfig.TheVariants.{Pair}
+use Rattle.bfd_session.specs.declared.event.SessionConfig.TheVariants.{PointToPoint}
 use Rattle.bfd_pair.specs.declared.event.Side.{Side}
 use Rattle.bfd_pair.specs.declared.event.Side.TheVariants.{Left, Right}
 use Rattle.bfd_pair.specs.declared.event.PairEvent.{PairEvent}
@@ -44,7 +44,7 @@ right seed = side 2 second first seed
 
 -- the two of this seed after these events
 abbrev pub run_of_seed : ℕ → List PairEvent → Both
-run_of_seed seed past = pair_run (Pair (left seed)) (Pair (right seed)) past
+run_of_seed seed past = pair_run (PointToPoint (left seed)) (PointToPoint (right seed)) past
 
 -- the draw of an event, by its number from 1: each follows the one before, and the first the seed
 unfoldable pub draw : ℕ → ℕ → ℕ

@@ -1,7 +1,7 @@
 //! What two peers promise whatever packets are lost, repeated or late.
 ghost use Rattle.std.specs.Prelude.{◌≡◌, ◌++◌, ◌∷◌, [], List, true, false};
 ghost use Rattle.bfd_rules.specs.declared.config.Config.{Config};
-ghost use Rattle.bfd_session.specs.declared.event.SessionConfig.TheVariants.{Pair as PairOf};
+ghost use Rattle.bfd_session.specs.declared.event.SessionConfig.TheVariants.{PointToPoint};
 ghost use Rattle.bfd_pair.specs.declared.event.Side.{Side};
 ghost use Rattle.bfd_pair.specs.declared.event.PairEvent.{PairEvent};
 ghost use Rattle.bfd_pair.specs.Run.{items_of, pair_run, turn};
@@ -14,15 +14,15 @@ ghost use Rattle.bfd_pair.specs.Handshake.{IsHandshake, reports_up, is_up_after}
 #[tactic(auto, using(crate::proofs::Handshakes::pair_handshakes))]
 pub fn handshake_law()
     ensures { (left right : Config) (past : List PairEvent) (event : PairEvent) (side : Side)
-        → reports_up (items_of side (turn event (pair_run (PairOf left) (PairOf right) past))) ≡ true
-        → IsHandshake (PairOf left) (PairOf right) side event past }
+        → reports_up (items_of side (turn event (pair_run (PointToPoint left) (PointToPoint right) past))) ≡ true
+        → IsHandshake (PointToPoint left) (PointToPoint right) side event past }
 {}
 
 /// A law, and no work: the same of a side that is Up after an event and wasn't before it.
 #[tactic(auto, using(crate::proofs::Handshakes::pair_comes_up))]
 pub fn up_law()
     ensures { (left right : Config) (past : List PairEvent) (event : PairEvent) (side : Side)
-        → is_up_after (PairOf left) (PairOf right) side past ≡ false
-        → is_up_after (PairOf left) (PairOf right) side (past ++ event ∷ []) ≡ true
-        → IsHandshake (PairOf left) (PairOf right) side event past }
+        → is_up_after (PointToPoint left) (PointToPoint right) side past ≡ false
+        → is_up_after (PointToPoint left) (PointToPoint right) side (past ++ event ∷ []) ≡ true
+        → IsHandshake (PointToPoint left) (PointToPoint right) side event past }
 {}

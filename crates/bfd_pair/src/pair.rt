@@ -1,7 +1,7 @@
 //! Two sides, and all that has happened to them.
 ghost use Rattle.std.specs.Prelude.{◌≡◌, ◌<◌, ◌≤◌, ◌+◌, ◌++◌, ◌∷◌, [], true, false, max, vec_len, vec_capacity, IfOk, OnOk, OnErr, Err};
 ghost use Rattle.bfd_num.specs.Numbers.{greatest_tick};
-ghost use Rattle.bfd_session.specs.declared.event.SessionConfig.TheVariants.{Pair as PairOf};
+ghost use Rattle.bfd_session.specs.declared.event.SessionConfig.TheVariants.{PointToPoint};
 ghost use Rattle.bfd_session.specs.Alone as alone;
 ghost use Rattle.bfd_session.specs.Step.{IsFit};
 ghost use Rattle.bfd_pair.specs.declared.event.Side.{Side};
@@ -155,9 +155,9 @@ impl Pair {
     /// one isn't the remote address of the other, and is tested first; otherwise it fails only when out of memory. The configurations are
     /// within their ranges.
     pub fn make(alloc: Global, left: Config, right: Config) -> Result<Pair, PairFault>
-        requires left { IsFit (PairOf left) }
-        requires right { IsFit (PairOf right) }
-        ensures made { IfOk result (λ pair. pair ≡ record { left = PairOf left; right = PairOf right; past = [] }) }
+        requires left { IsFit (PointToPoint left) }
+        requires right { IsFit (PointToPoint right) }
+        ensures made { IfOk result (λ pair. pair ≡ record { left = PointToPoint left; right = PointToPoint right; past = [] }) }
         ensures peers { OnOk result (events.are_peers left right ≡ true) }
         ensures not_peers { events.are_peers left right ≡ false → result ≡ Err PairFault.NotPeers }
         ensures memory { events.are_peers left right ≡ true → OnErr result (result ≡ Err PairFault.Memory) }

@@ -4,7 +4,7 @@ ghost use Rattle.std.specs.Result.{result_err};
 ghost use Rattle.bfd_num.specs.Numbers.{moment_bound, greatest_tick};
 ghost use Rattle.bfd_packet.specs.declared.arrival.Arrival.{Arrival};
 ghost use Rattle.bfd_demux.specs.Selection.{first_header_failing, first_table_failing};
-ghost use Rattle.bfd_session.specs.declared.event.SessionConfig.TheVariants.{Pair as PairOf};
+ghost use Rattle.bfd_session.specs.declared.event.SessionConfig.TheVariants.{PointToPoint};
 ghost use Rattle.bfd_session.specs.Alone as alone;
 ghost use Rattle.bfd_session.specs.Step.{IsFit, CanTake};
 ghost use Rattle.bfd_session.specs.Rows as rows;
@@ -57,7 +57,7 @@ fn table(alloc: Global, config: &SessionConfig) -> Result<Demux, AllocError>
 
 /// How packets reach a session of this configuration.
 fn way_to(config: &Config) -> Way
-    ensures { (bytes : List ℕ) → arrival_to (PairOf config.now) bytes ≡ Some (by_way result bytes) }
+    ensures { (bytes : List ℕ) → arrival_to (PointToPoint config.now) bytes ≡ Some (by_way result bytes) }
 {
     Way {
         port: control_port(config.role),
@@ -69,12 +69,12 @@ fn way_to(config: &Config) -> Way
 
 /// A side at the start. Fails only when out of memory.
 pub(crate) fn open(alloc: Global, config: Config) -> Result<Peer, AllocError>
-    requires { IsFit (PairOf config) }
+    requires { IsFit (PointToPoint config) }
     ensures peer { IfOk result (λ p. IsPeer p) }
-    ensures opened { IfOk result (λ p. seen p ≡ run.opened_side (PairOf config)) }
+    ensures opened { IfOk result (λ p. seen p ≡ run.opened_side (PointToPoint config)) }
 {
     let way = way_to(&config);
-    let config = SessionConfig::Pair(config);
+    let config = SessionConfig::PointToPoint(config);
     let table = table(alloc, &config)?;
     Ok(Peer {
         session: Session::make(config),

@@ -8,7 +8,7 @@ use Rattle.bfd_packet.specs.KeyChain.{KeyChain}
 use Rattle.bfd_packet.specs.declared.keys.AuthType.{AuthType}
 use Rattle.bfd_packet.specs.declared.keys.Key.{Key}
 use Rattle.bfd_rules.specs.declared.config.Config.{Config}
-use Rattle.bfd_session.specs.declared.event.SessionConfig.TheVariants.{Pair}
+use Rattle.bfd_session.specs.declared.event.SessionConfig.TheVariants.{PointToPoint}
 use Rattle.bfd_demux.specs.Rows.{same_selector as same_kind}
 use Rattle.bfd_script.proofs.Elements.{each_to}
 use Rattle.bfd_script.proofs.Numbered.{values_by}
@@ -169,7 +169,7 @@ table_changed {f} kept k {entries} {more} were row e =
 
 -- ---- keys for a session
 
-fit_keyed : (keys : Option KeyChain) {c : Config} → IsFit (Pair c) → IsFit (Pair (record c { keys = keys }))
+fit_keyed : (keys : Option KeyChain) {c : Config} → IsFit (PointToPoint c) → IsFit (PointToPoint (record c { keys = keys }))
 fit_keyed keys h = record {
   discr = h.discr;
   iface = h.iface;
@@ -182,23 +182,23 @@ fit_keyed keys h = record {
   echo_range = h.echo_range;
 }
 
-row_keyed : (keys : Option KeyChain) {c : Config} → AreKeys keys → IsRow (Pair c) → IsRow (Pair (record c { keys = keys }))
+row_keyed : (keys : Option KeyChain) {c : Config} → AreKeys keys → IsRow (PointToPoint c) → IsRow (PointToPoint (record c { keys = keys }))
 row_keyed keys are h = record { discr = h.discr; local = h.local; remote = h.remote; mult = h.mult; seed = h.seed; keys = are }
 
 with_discr : (keys : KeyChain) (c : SessionConfig) → discr_of (keyed_with keys c) ≡ discr_of c
-with_discr keys (Pair c) = refl
+with_discr keys (PointToPoint c) = refl
 with_discr keys c = refl
 
 with_place : (keys : KeyChain) (c : SessionConfig) → (row_of (keyed_with keys c)).kind ≡ (row_of c).kind
-with_place keys (Pair c) = refl
+with_place keys (PointToPoint c) = refl
 with_place keys c = refl
 
 with_fit : (keys : KeyChain) (c : SessionConfig) → IsFit c → IsFit (keyed_with keys c)
-with_fit keys (Pair c) h = fit_keyed (Some keys) h
+with_fit keys (PointToPoint c) h = fit_keyed (Some keys) h
 with_fit keys c h = h
 
 with_row : {keys : KeyChain} → IsChain keys → (c : SessionConfig) → IsRow c → IsRow (keyed_with keys c)
-with_row {keys} are (Pair c) h = row_keyed (Some keys) are h
+with_row {keys} are (PointToPoint c) h = row_keyed (Some keys) are h
 with_row are c h = h
 
 pub with_keeps : (keys : KeyChain) → Keeps (keyed_with keys)
@@ -211,15 +211,15 @@ table_given k {keys} were are e = table_changed (with_keeps keys) k were (λ c h
 -- ---- one more key
 
 more_discr : (key : Key) (c : SessionConfig) → discr_of (keyed_more key c) ≡ discr_of c
-more_discr key (Pair c) = refl
+more_discr key (PointToPoint c) = refl
 more_discr key c = refl
 
 more_place : (key : Key) (c : SessionConfig) → (row_of (keyed_more key c)).kind ≡ (row_of c).kind
-more_place key (Pair c) = refl
+more_place key (PointToPoint c) = refl
 more_place key c = refl
 
 more_fit : (key : Key) (c : SessionConfig) → IsFit c → IsFit (keyed_more key c)
-more_fit key (Pair c) h = fit_keyed (one_more key c.keys) h
+more_fit key (PointToPoint c) h = fit_keyed (one_more key c.keys) h
 more_fit key c h = h
 
 pub more_keeps : (key : Key) → Keeps (keyed_more key)
@@ -249,7 +249,7 @@ more_keys (Some keys) {key} free is all = record {
 }
 
 more_row : {key : Key} (c : SessionConfig) → key_fault (keys_in (Some c)) key ≡ None → IsKey key → IsRow c → IsRow (keyed_more key c)
-more_row {key} (Pair c) free is h = row_keyed (one_more key c.keys) (more_keys c.keys free is h.keys) h
+more_row {key} (PointToPoint c) free is h = row_keyed (one_more key c.keys) (more_keys c.keys free is h.keys) h
 more_row c free is h = h
 
 pub table_more_keys : (k : ℕ) {key : Key} {cs : List SessionConfig} {entries more : List (ℕ × SessionConfig)} {has : RowKind → Bool}

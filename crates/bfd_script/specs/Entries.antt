@@ -17,7 +17,7 @@ use Rattle.bfd_script.specs.declared.line.entries.Line.TheVariants as events
 use Rattle.bfd_script.specs.Arrivals.{port_in, arrival_fields}
 use Rattle.bfd_script.specs.Fields.{line_text, split_fields, number_in}
 use Rattle.bfd_script.specs.Gives.{◌>>=◌}
-use Rattle.bfd_script.specs.Pairs.{p2p_row}
+use Rattle.bfd_script.specs.Points.{p2p_row}
 use Rattle.bfd_script.specs.Seamless.{reflector_of, sbfd_row}
 use Rattle.bfd_script.specs.Secrets.{chain_of, key_of}
 use Rattle.bfd_script.specs.Trees.{head_row, tail_row}

@@ -10,7 +10,7 @@ pub mod Gives
 pub mod Values
 pub mod Spelling
 pub mod Words
-pub mod Pairs
+pub mod Points
 pub mod Seamless
 pub mod Trees
 pub mod Secrets

@@ -13,7 +13,7 @@ use Rattle.bfd_packet.specs.declared.keys.AuthType.{AuthType}
 use Rattle.bfd_packet.specs.declared.keys.Key.{Key}
 use Rattle.bfd_rules.specs.declared.config.Config.{Config}
 use Rattle.bfd_session.specs.declared.event.SessionConfig.{SessionConfig}
-use Rattle.bfd_session.specs.declared.event.SessionConfig.TheVariants.{Pair, Initiator, Head, Tail}
+use Rattle.bfd_session.specs.declared.event.SessionConfig.TheVariants.{PointToPoint, Initiator, Head, Tail}
 use Rattle.bfd_script.specs.declared.line.entries.Entry.{Entry}
 use Rattle.bfd_script.specs.declared.line.entries.Entry.TheVariants as entries
 use Rattle.bfd_script.specs.declared.line.entries.Line.{Line}
@@ -48,7 +48,7 @@ AreKeys None = Unit {0}
 AreKeys (Some keys) = IsChain keys
 
 -- the numbers of a `p2p` line fit their fields, and its keys are none or those of such lines
-pub record IsPairRow (c : Config) : Type 0 where
+pub record IsPointRow (c : Config) : Type 0 where
   pub discr : c.discr < 2 ^ 32
   pub local : IsAddress c.local
   pub remote : IsAddress c.remote
@@ -80,7 +80,7 @@ pub record IsTailRow (c : TailConfig) : Type 0 where
 
 -- a session as its table lines give it
 abbrev pub IsRow : SessionConfig → Type 0
-IsRow (Pair c) = IsPairRow c
+IsRow (PointToPoint c) = IsPointRow c
 IsRow (Initiator c) = IsInitiatorRow c
 IsRow (Head c) = IsHeadRow c
 IsRow (Tail c) = IsTailRow c

@@ -20,7 +20,7 @@ use Rattle.bfd_script.specs.declared.line.entries.Entry.TheVariants as entries
 use Rattle.bfd_script.specs.Entries.{entry_in_line}
 use Rattle.bfd_script.specs.Fields.{lines_of}
 use Rattle.bfd_script.specs.Gives.{◌>>=◌}
-use Rattle.bfd_script.specs.Rows.{given, given_more, has_discr, has_keys, has_pair, has_place, has_reflector, inserted, keys_of, pooled}
+use Rattle.bfd_script.specs.Rows.{given, given_more, has_discr, has_keys, has_point, has_place, has_reflector, inserted, keys_of, pooled}
 use Rattle.bfd_script.specs.Secrets.{key_fault}
 
 -- a script, as contracts see it
@@ -82,7 +82,7 @@ with_reflector reflector s =
 abbrev pub with_keys : ℕ → KeyChain → State → Result State LineFault
 with_keys discr keys s =
     if has_keys discr s.configs then Err SameDiscr
-    else if not (has_pair discr s.configs) then Err NoSuchSession
+    else if not (has_point discr s.configs) then Err NoSuchSession
     else Ok (record s { configs = given discr keys s.configs })
 
 -- a refusal, if there is one

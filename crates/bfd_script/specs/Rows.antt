@@ -8,7 +8,7 @@ use Rattle.bfd_sbfd.specs.declared.reflecting.Reflector.{Reflector}
 use Rattle.bfd_demux.specs.declared.row.RowKind.{RowKind}
 use Rattle.bfd_demux.specs.Rows.{same_selector as same_kind}
 use Rattle.bfd_session.specs.declared.event.SessionConfig.{SessionConfig}
-use Rattle.bfd_session.specs.declared.event.SessionConfig.TheVariants.{Pair}
+use Rattle.bfd_session.specs.declared.event.SessionConfig.TheVariants.{PointToPoint}
 use Rattle.bfd_session.specs.Kinds.{discr_of}
 use Rattle.bfd_session.specs.Rows.{row_of, same_selector}
 
@@ -68,17 +68,17 @@ by_discr configs = by_number discr_of configs
 -- ---- keys, which only a point-to-point session may have
 
 -- a session that may have keys
-abbrev pub is_pair : Option SessionConfig → Bool
-is_pair (Some (Pair c)) = true
-is_pair config = false
+abbrev pub is_point : Option SessionConfig → Bool
+is_point (Some (PointToPoint c)) = true
+is_point config = false
 
 -- the session of this discriminator may have keys
-abbrev pub has_pair : ℕ → List SessionConfig → Bool
-has_pair discr configs = is_pair (find (λ c. discr == discr_of c) configs)
+abbrev pub has_point : ℕ → List SessionConfig → Bool
+has_point discr configs = is_point (find (λ c. discr == discr_of c) configs)
 
 -- the keys of this session
 abbrev pub keys_in : Option SessionConfig → Option KeyChain
-keys_in (Some (Pair c)) = c.keys
+keys_in (Some (PointToPoint c)) = c.keys
 keys_in config = None
 
 -- the keys of the session of this discriminator
@@ -96,7 +96,7 @@ changed discr f (c ∷ configs) = if discr == discr_of c then f c ∷ configs el
 
 -- a session with these keys, if it may have some
 abbrev pub keyed_with : KeyChain → SessionConfig → SessionConfig
-keyed_with keys (Pair c) = Pair (record c { keys = Some keys })
+keyed_with keys (PointToPoint c) = PointToPoint (record c { keys = Some keys })
 keyed_with keys config = config
 
 -- the session of this discriminator gets these keys
@@ -110,7 +110,7 @@ one_more key (Some keys) = Some (record keys { list = keys.list ++ key ∷ [] })
 
 -- a session with one more key, if it has some
 abbrev pub keyed_more : Key → SessionConfig → SessionConfig
-keyed_more key (Pair c) = Pair (record c { keys = one_more key c.keys })
+keyed_more key (PointToPoint c) = PointToPoint (record c { keys = one_more key c.keys })
 keyed_more key config = config
 
 -- the session of this discriminator gets one more key

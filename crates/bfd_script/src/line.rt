@@ -5,13 +5,13 @@
 //! `specs/Ranges.antt` what is true of each. An entry is a row of the table (a session or a reflector), keys of a session, or
 //! an event, a [`Line`]; a line between them has its word alone. [`rx_entry`] is the same for `rx`, which most lines are.
 //!
-//! Layers, lowest first: `words` (the versions, the words and where they may stand), `pairs`, `seamless` and `trees` (the
+//! Layers, lowest first: `words` (the versions, the words and where they may stand), `points`, `seamless` and `trees` (the
 //! values of a table line), `secrets`, `arrivals` and `verbs` (those of keys, of a packet and of a command), `entries` (the
 //! whole line).
 
 mod arrivals;
 mod entries;
-mod pairs;
+mod points;
 mod seamless;
 mod secrets;
 mod trees;
@@ -19,7 +19,7 @@ mod verbs;
 mod words;
 
 pub use entries::{Entry, Line, read_values, rx_entry};
-pub(crate) use pairs::read_pair;
+pub(crate) use points::read_point;
 pub use secrets::key_fault;
 pub use verbs::Verb;
 pub use words::{Place, Version, Word, word_named};

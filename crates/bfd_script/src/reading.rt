@@ -2,14 +2,14 @@
 ghost use Rattle.std.specs.Prelude.{IfOk, map};
 ghost use Rattle.bfd_script.specs.Entries.{row_entry, rx_entry, valued, worded};
 ghost use Rattle.bfd_script.specs.Gives.{◌>>=◌ as on_to, Gives, GivesScript};
-ghost use Rattle.bfd_script.specs.Pairs.{p2p_row};
+ghost use Rattle.bfd_script.specs.Points.{p2p_row};
 ghost use Rattle.bfd_script.specs.Reading.{admitted, script_of, line_read};
 ghost use Rattle.bfd_script.specs.Sound.{IsScript};
 
 use crate::fields::{
     BadLine, LineFault, ReadFault, ScriptFault, first_line, line_text, split_fields,
 };
-use crate::line::{Word, read_pair, read_values, rx_entry, word_named};
+use crate::line::{Word, read_point, read_values, rx_entry, word_named};
 use crate::script::Script;
 use crate::state::Reading;
 use std::alloc::Global;
@@ -25,11 +25,11 @@ fn take_packet(alloc: Global, reading: &mut Reading, values: &[&[u8]]) -> Result
 
 /// Accepts one more `p2p` line of these values. Most rows of a table are such lines, so the session goes to its place as it is read.
 #[inline(never)]
-fn take_pair(alloc: Global, reading: &mut Reading, values: &[&[u8]]) -> Result<(), ReadFault>
+fn take_point(alloc: Global, reading: &mut Reading, values: &[&[u8]]) -> Result<(), ReadFault>
     ensures { Gives (λ _. reading.new)
         result (on_to (row_entry (p2p_row (map (λ value. value.now) values.now))) (λ entry. admitted entry reading.old)) }
 {
-    let config = read_pair(values)?;
+    let config = read_point(values)?;
     reading.add_row(alloc, config)
 }
 
@@ -62,7 +62,7 @@ fn take_values(
 {
     match word {
         Word::Rx => take_packet(alloc, reading, values),
-        Word::P2p => take_pair(alloc, reading, values),
+        Word::P2p => take_point(alloc, reading, values),
         other => take_entry(alloc, reading, other, values),
     }
 }

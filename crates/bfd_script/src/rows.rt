@@ -67,7 +67,7 @@ fn place_of(rows: &[SessionConfig], discr: u32) -> Option<usize>
 fn set_keys(config: &mut SessionConfig, keys: Keys)
     ensures { config.new ≡ keyed_with keys config.old }
 {
-    if let SessionConfig::Pair(pair) = config {
+    if let SessionConfig::PointToPoint(pair) = config {
         pair.keys = Some(keys);
     }
 }
@@ -87,7 +87,7 @@ fn add_key(config: &mut SessionConfig, key: Key)
     requires { key_fault (keys_in (Some config.old)) key ≡ None }
     ensures { config.new ≡ keyed_more key config.old }
 {
-    if let SessionConfig::Pair(pair) = config {
+    if let SessionConfig::PointToPoint(pair) = config {
         add_to(&mut pair.keys, key);
     }
 }

@@ -157,7 +157,7 @@ impl Reading {
         if self.table.has_keys(discr) {
             return Err(ReadFault::Fault(LineFault::SameDiscr));
         }
-        if !self.table.has_pair(discr) {
+        if !self.table.has_point(discr) {
             return Err(ReadFault::Fault(LineFault::NoSuchSession));
         }
         let table = self.table.with_keys(discr, keys);

@@ -9,7 +9,7 @@ ghost use Rattle.std.specs.BTreeMap.{insert_entry};
 ghost use Rattle.std.specs.Map.{values_of};
 ghost use Rattle.std.specs.Ordering.{nat_cmp};
 ghost use Rattle.std.specs.Option.{option_copied};
-ghost use Rattle.bfd_script.specs.Rows.{given, given_more, has_discr, has_keys, has_pair, has_place, inserted, is_pair, keys_in, keys_of};
+ghost use Rattle.bfd_script.specs.Rows.{given, given_more, has_discr, has_keys, has_point, has_place, inserted, is_point, keys_in, keys_of};
 ghost use Rattle.bfd_script.specs.Secrets.{key_fault};
 ghost use Rattle.bfd_script.specs.Ranges.{IsChain, IsKey, IsRow};
 ghost use Rattle.bfd_script.specs.Sound.{AreConfigs};
@@ -50,16 +50,16 @@ pub fn keys_in(config: &SessionConfig) -> Option<&Keys>
     ensures { option_copied result ≡ keys_in (Some config.now) }
 {
     match config {
-        SessionConfig::Pair(pair) => pair.keys.as_ref(),
+        SessionConfig::PointToPoint(pair) => pair.keys.as_ref(),
         _ => None,
     }
 }
 
 /// Whether the session may have keys: a point-to-point one alone may.
 fn may_have_keys(config: &SessionConfig) -> bool
-    ensures { result ≡ is_pair (Some config.now) }
+    ensures { result ≡ is_point (Some config.now) }
 {
-    matches!(config, SessionConfig::Pair(_))
+    matches!(config, SessionConfig::PointToPoint(_))
 }
 
 /// The addresses of one more session, where it has some: a session without addresses is like no other.
@@ -118,8 +118,8 @@ impl Table {
 
     /// Whether the session of this discriminator is present and may have keys.
     #[tactic(auto, using(crate::proofs::Giving::found_at))]
-    pub(crate) fn has_pair(&self, discr: u32) -> bool
-        ensures { result ≡ has_pair discr self.now }
+    pub(crate) fn has_point(&self, discr: u32) -> bool
+        ensures { result ≡ has_point discr self.now }
     {
         match self.rows.get(discr) {
             Some(config) => may_have_keys(config),

@@ -1,7 +1,7 @@
 -- Table rows, written and read again.
 use Rattle.bfd_serve.proofs.SpellingCommon.{◌≡◌, ℕ, ◌≤◌, Bool, true, false, cond, [], ◌∷◌, length, None, Ok, Err, refl, arith, nat_tests}
 use Rattle.bfd_serve.proofs.SpellingCommon.{codes, decimal, AllByRecursion, SessionConfig, OutOfRange, Version, entry_in_line, IsHeadRow}
-use Rattle.bfd_serve.proofs.SpellingCommon.{IsPairRow, IsReflector, IsRow, IsInitiatorRow, IsTailRow, spaced, address_field, mode_field}
+use Rattle.bfd_serve.proofs.SpellingCommon.{IsPointRow, IsReflector, IsRow, IsInitiatorRow, IsTailRow, spaced, address_field, mode_field}
 use Rattle.bfd_serve.proofs.SpellingCommon.{reflector_fields, role_field, row_fields, up_field}
 use Rattle.bfd_rules.specs.Sound.{IsConfig, is_echo_interval}
 use Rattle.bfd_rules.specs.declared.config.Config.{Config}
@@ -13,7 +13,7 @@ use Rattle.bfd_mp.specs.declared.config.TailConfig.{TailConfig}
 use Rattle.bfd_sbfd.specs.Sound.{IsInitiatorConfig}
 use Rattle.bfd_sbfd.specs.declared.config.InitiatorConfig.{InitiatorConfig}
 use Rattle.bfd_sbfd.specs.declared.reflecting.Reflector.{Reflector}
-use Rattle.bfd_session.specs.declared.event.SessionConfig.TheVariants.{Pair, Initiator, Head, Tail}
+use Rattle.bfd_session.specs.declared.event.SessionConfig.TheVariants.{PointToPoint, Initiator, Head, Tail}
 use Rattle.bfd_session.specs.Step.{IsFit}
 use Rattle.bfd_script.specs.declared.line.entries.Entry.TheVariants as entries
 use Rattle.bfd_script.specs.declared.line.words.Place.TheVariants as places
@@ -68,7 +68,7 @@ p2p_is_field = word (codes "p2p") refl
 
 -- ---- a point-to-point session
 
-ends_again : {c : Config} → IsConfig c → IsPairRow c
+ends_again : {c : Config} → IsConfig c → IsPointRow c
     → ends_of (decimal c.discr) (role_field c.role) (decimal c.iface) (address_field c.local) (address_field c.remote)
     ≡ Ok (record { discr = c.discr; role = c.role; iface = c.iface; local = c.local; remote = c.remote })
 unfolding ends_of
@@ -86,7 +86,7 @@ echo_step fits n h = rw h refl
 echo_again : (role : Role) (n : ℕ) → is_echo_interval role n ≡ true → n ≤ 60000000 → echo_of role (decimal n) ≡ Ok n
 echo_again role n fits high = cc (number_again 0 _ n (omega arith) high (omega arith), echo_step (is_echo_interval role n) n fits)
 
-timing_again : {c : Config} → IsConfig c → IsPairRow c → c.echo ≤ 60000000
+timing_again : {c : Config} → IsConfig c → IsPointRow c → c.echo ≤ 60000000
     → timing_of c.role (mode_field c.active) (decimal c.tx) (decimal c.rx) (decimal c.mult) (decimal c.echo) (decimal c.seed)
     ≡ Ok (record { active = c.active; tx = c.tx; rx = c.rx; mult = c.mult; echo = c.echo; seed = c.seed })
 unfolding timing_of
@@ -99,13 +99,13 @@ timing_again {c} fit row high = rw (
   number_again 0 4294967295 c.seed (omega arith) (let k = row.seed in omega arith) (let k = row.seed in omega arith),
 ) refl
 
-pair_again : {c : Config} → IsConfig c → IsPairRow c → c.echo ≤ 60000000
+point_again : {c : Config} → IsConfig c → IsPointRow c → c.echo ≤ 60000000
     → p2p_row (decimal c.discr ∷ role_field c.role ∷ decimal c.iface ∷ address_field c.local ∷ address_field c.remote
     ∷ mode_field c.active ∷ decimal c.tx ∷ decimal c.rx ∷ decimal c.mult ∷ decimal c.echo ∷ decimal c.seed ∷ [])
-    ≡ Ok (Pair (record c { keys = None }))
-pair_again fit row high = cc (ends_again fit row, timing_again fit row high)
+    ≡ Ok (PointToPoint (record c { keys = None }))
+point_again fit row high = cc (ends_again fit row, timing_again fit row high)
 
-row_is_fields : {c : Config} → IsConfig c → IsPairRow c → c.echo ≤ 60000000 → AllByRecursion IsField (row_fields (Pair c))
+row_is_fields : {c : Config} → IsConfig c → IsPointRow c → c.echo ≤ 60000000 → AllByRecursion IsField (row_fields (PointToPoint c))
 row_is_fields {c} fit row high = (
   p2p_is_field,
   (
@@ -141,7 +141,7 @@ row_is_fields {c} fit row high = (
   ),
 )
 
-row_short : {c : Config} → IsConfig c → IsPairRow c → c.echo ≤ 60000000 → total (row_fields (Pair c)) ≤ 4096
+row_short : {c : Config} → IsConfig c → IsPointRow c → c.echo ≤ 60000000 → total (row_fields (PointToPoint c)) ≤ 4096
 row_short {c} fit row high =
     let l1 = number_short c.discr (let k = row.discr in omega arith) in
     let l2 = role_short c.role in
@@ -299,11 +299,11 @@ tail_short {c} fit row =
 
 -- a session without its keys
 abbrev pub bare : SessionConfig → SessionConfig
-bare (Pair c) = Pair (record c { keys = None })
+bare (PointToPoint c) = PointToPoint (record c { keys = None })
 bare config = config
 
 pub row_fields_fit : (c : SessionConfig) → IsFit c → IsRow c → AllByRecursion IsField (row_fields c)
-row_fields_fit (Pair c) fit row = row_is_fields fit row (echo_most c.role c.echo fit.echo_range)
+row_fields_fit (PointToPoint c) fit row = row_is_fields fit row (echo_most c.role c.echo fit.echo_range)
 row_fields_fit (Initiator c) fit row = initiator_fields fit row
 row_fields_fit (Head c) fit row = head_fields fit row
 row_fields_fit (Tail c) fit row = tail_fields fit row
@@ -311,14 +311,14 @@ row_fields_fit (Tail c) fit row = tail_fields fit row
 -- the row says nothing of keys
 pub row_again : (version : Version) (live : Bool) (c : SessionConfig) → IsFit c → IsRow c
     → entry_in_line version places.Table live (spaced (row_fields c) []) ≡ Ok (entries.Row (bare c))
-row_again version live (Pair c) fit row =
+row_again version live (PointToPoint c) fit row =
     let high = echo_most c.role c.echo fit.echo_range in
     cc (
       entry_again version places.Table live (codes "p2p")
           (decimal c.discr ∷ role_field c.role ∷ decimal c.iface ∷ address_field c.local ∷ address_field c.remote ∷ mode_field c.active ∷
           decimal c.tx ∷ decimal c.rx ∷ decimal c.mult ∷ decimal c.echo ∷ decimal c.seed ∷ [])
           (row_is_fields fit row high) (row_short fit row high),
-      pair_again fit row high,
+      point_again fit row high,
     )
 row_again version live (Initiator c) fit row = cc (
   entry_again version places.Table live (codes "sbfd") (decimal c.discr ∷ decimal c.target ∷ decimal c.iface ∷ address_field c.local ∷

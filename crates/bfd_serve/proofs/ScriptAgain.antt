@@ -12,7 +12,7 @@ use Rattle.bfd_packet.specs.KeyChain.{KeyChain, fits_kind, has_id}
 use Rattle.bfd_packet.specs.declared.keys.AuthType.{AuthType}
 use Rattle.bfd_packet.specs.declared.keys.Key.{Key}
 use Rattle.bfd_rules.specs.declared.config.Config.{Config}
-use Rattle.bfd_session.specs.declared.event.SessionConfig.TheVariants.{Pair}
+use Rattle.bfd_session.specs.declared.event.SessionConfig.TheVariants.{PointToPoint}
 use Rattle.bfd_sbfd.specs.Reflect as pools
 use Rattle.bfd_sbfd.specs.declared.reflecting.Reflector.{Reflector}
 use Rattle.bfd_session.specs.Kinds.{discr_of}
@@ -23,7 +23,7 @@ use Rattle.bfd_script.specs.declared.line.words.Version.TheVariants.{One, Two}
 use Rattle.bfd_script.specs.Reading.{Lists, State, is_named, script_of, start, line_read, script_from, unless, with_config, with_event}
 use Rattle.bfd_script.specs.Reading.{with_key, with_keys, with_reflector}
 use Rattle.bfd_script.proofs.Rising.{inserted_last}
-use Rattle.bfd_script.specs.Rows.{changed, given, has_discr, has_reflector, inserted, is_pair, pooled, keyed_more, keyed_with, keys_in}
+use Rattle.bfd_script.specs.Rows.{changed, given, has_discr, has_reflector, inserted, is_point, pooled, keyed_more, keyed_with, keys_in}
 use Rattle.bfd_script.specs.Secrets.{key_fault, one_key}
 use Rattle.bfd_session.specs.Rows.{same_selector}
 use Rattle.bfd_session.specs.Step.{IsFit}
@@ -83,7 +83,7 @@ row_taken version {c} {done} follows room =
 
 -- a session without its keys follows those before it as it does with them
 follows_bare : (c : SessionConfig) {done : List SessionConfig} → Follows done c → Follows done (bare c)
-follows_bare (Pair c) h = record { above = h.above; apart = h.apart }
+follows_bare (PointToPoint c) h = record { above = h.above; apart = h.apart }
 follows_bare c h = h
 
 row_step : (version : Version) {c : SessionConfig} {done : List SessionConfig} → IsFit c → IsRow c → Follows done c → length done < 65536
@@ -114,26 +114,26 @@ taken_step next e f = rw (e, f) refl
 
 keys_taken : (version : Version) (c : Config) (keys : KeyChain) (done : List SessionConfig) → c.keys ≡ None
     → AllByRecursion (λ d. discr_of d < c.discr) done
-    → with_keys c.discr keys (at_table version (done ++ Pair c ∷ []))
-    ≡ Ok (at_table version (done ++ Pair (record c { keys = Some keys }) ∷ []))
+    → with_keys c.discr keys (at_table version (done ++ PointToPoint c ∷ []))
+    ≡ Ok (at_table version (done ++ PointToPoint (record c { keys = Some keys }) ∷ []))
 keys_taken version c keys done bare h = cc (
-  taken_step (at_table version (given c.discr keys (done ++ Pair c ∷ [])))
-      (ap (λ o. is_some (keys_in o)) (find_last (Pair c) done h) ∙ ap (λ o. is_some o) bare)
-      (ap (λ o. is_pair o) (find_last (Pair c) done h)),
-  changed_last (keyed_with keys) (Pair c) done h,
+  taken_step (at_table version (given c.discr keys (done ++ PointToPoint c ∷ [])))
+      (ap (λ o. is_some (keys_in o)) (find_last (PointToPoint c) done h) ∙ ap (λ o. is_some o) bare)
+      (ap (λ o. is_point o) (find_last (PointToPoint c) done h)),
+  changed_last (keyed_with keys) (PointToPoint c) done h,
 )
 
 auth_step : (version : Version) (c : Config) (kind : AuthType) (key : Key) (done : List SessionConfig) → c.keys ≡ None → 0 < c.discr
     → c.discr < 2 ^ 32
     → IsKey key → fits_kind kind key.secret ≡ true → AllByRecursion (λ d. discr_of d < c.discr) done
-    → line_read false (at_table version (done ++ Pair c ∷ [])) (spaced (auth_fields c.discr kind key) [])
-    ≡ Ok (at_table version (done ++ Pair (record c { keys = Some (one_key kind key.id key.secret) }) ∷ []))
+    → line_read false (at_table version (done ++ PointToPoint c ∷ [])) (spaced (auth_fields c.discr kind key) [])
+    ≡ Ok (at_table version (done ++ PointToPoint (record c { keys = Some (one_key kind key.id key.secret) }) ∷ []))
 auth_step version c kind key done bare some below fit fits h =
     cc (auth_again version false _ kind key some below fit fits, keys_taken version c (one_key kind key.id key.secret) done bare h)
 
 -- a session with these keys
 abbrev with_list : Config → AuthType → List Key → SessionConfig
-with_list c kind list = Pair (record c { keys = Some (record { kind = kind; list = list }) })
+with_list c kind list = PointToPoint (record c { keys = Some (record { kind = kind; list = list }) })
 
 free_step : {fault : Option LineFault} (next : State) → fault ≡ None → unless fault next ≡ Ok next
 free_step next e = rw e refl
@@ -211,14 +211,14 @@ others_again Two c kind key keys done number rest some below speaks next h =
 list_again : (version : Version) (c : Config) (kind : AuthType) (list : List Key) (done : List SessionConfig) (number : ℕ) (rest : List ℕ)
     → c.keys ≡ None → 0 < c.discr → c.discr < 2 ^ 32
     → Speaks version (nat_lt 1 (length list)) → 0 < length list → AreNext kind [] list → AllByRecursion (λ d. discr_of d < c.discr) done
-    → script_from false (at_table version (done ++ Pair c ∷ [])) number (lines_of (list_text c.discr kind list ++ rest))
+    → script_from false (at_table version (done ++ PointToPoint c ∷ [])) number (lines_of (list_text c.discr kind list ++ rest))
     ≡ script_from false (at_table version (done ++ with_list c kind list ∷ [])) (number + length list) (lines_of rest)
 list_again version c kind [] done number rest bare some below speaks there next h = absurd (omega arith)
 list_again version c kind (key ∷ keys) done number rest bare some below speaks there next h =
     let e : number + 1 + length keys ≡ number + suc (length keys) = omega arith in
     cc (
       append_assoc (line (auth_fields c.discr kind key)) (more_text c.discr keys) rest,
-      line_taken (at_table version (done ++ Pair c ∷ [])) number (auth_fields c.discr kind key) (more_text c.discr keys ++ rest)
+      line_taken (at_table version (done ++ PointToPoint c ∷ [])) number (auth_fields c.discr kind key) (more_text c.discr keys ++ rest)
           (lines_again (auth_fields c.discr kind key) (more_text c.discr keys ++ rest) (auth_fields_fit kind below next.0.fits))
           (auth_step version c kind key done bare some below next.0.fits (has_room kind [] key next.0.free) h),
       others_again version c kind key keys done (number + 1) rest some below speaks next.1 h,
@@ -227,8 +227,9 @@ list_again version c kind (key ∷ keys) done number rest bare some below speaks
 keys_again : (version : Version) (c : Config) (keys : Option KeyChain) (done : List SessionConfig) (number : ℕ) (rest : List ℕ)
     → 0 < c.discr → c.discr < 2 ^ 32
     → Speaks version (has_second keys) → AreKeys keys → AllByRecursion (λ d. discr_of d < c.discr) done
-    → script_from false (at_table version (done ++ Pair (record c { keys = None }) ∷ [])) number (lines_of (keys_text c.discr keys ++ rest))
-    ≡ script_from false (at_table version (done ++ Pair (record c { keys = keys }) ∷ [])) (past_keys number keys) (lines_of rest)
+    → script_from false (at_table version (done ++ PointToPoint (record c { keys = None }) ∷ [])) number
+    (lines_of (keys_text c.discr keys ++ rest))
+    ≡ script_from false (at_table version (done ++ PointToPoint (record c { keys = keys }) ∷ [])) (past_keys number keys) (lines_of rest)
 keys_again version c None done number rest some below speaks fit h = refl
 keys_again version c (Some keys) done number rest some below speaks fit h =
     list_again version (record c { keys = None }) keys.kind keys.list done number rest refl some below speaks fit.some fit.list h
@@ -237,7 +238,7 @@ bare_again : (version : Version) (c : SessionConfig) (done : List SessionConfig)
     → Speaks version (is_new_row c) → AllByRecursion (λ d. discr_of d < discr_of c) done
     → script_from false (at_table version (done ++ bare c ∷ [])) number (lines_of (keys_text (discr_of c) (keys_in (Some c)) ++ rest))
     ≡ script_from false (at_table version (done ++ c ∷ [])) (past_keys number (keys_in (Some c))) (lines_of rest)
-bare_again version (Pair c) done number rest fit row speaks h =
+bare_again version (PointToPoint c) done number rest fit row speaks h =
     keys_again version c c.keys done number rest fit.discr row.discr speaks row.keys h
 bare_again version c done number rest fit row speaks h = refl
 

@@ -14,7 +14,7 @@ pub use Rattle.bfd_script.specs.declared.fields.fault.LineFault.TheVariants.{NoS
 pub use Rattle.bfd_script.specs.declared.fields.fault.LineFault.TheVariants.{TooMany}
 pub use Rattle.bfd_script.specs.Entries.{cmd_entry, entry_in_line, placed}
 unfoldable pub use Rattle.bfd_script.specs.Entries.{numbered_of, plain_of, received_of, shown_of}
-pub use Rattle.bfd_script.specs.Ranges.{AreKeys, AreNext, IsAsked, IsEvent, IsHeadRow, IsKey, IsNext, IsPairRow, IsReceived, IsReflector}
+pub use Rattle.bfd_script.specs.Ranges.{AreKeys, AreNext, IsAsked, IsEvent, IsHeadRow, IsKey, IsNext, IsPointRow, IsReceived, IsReflector}
 pub use Rattle.bfd_script.specs.Ranges.{IsRow, IsInitiatorRow, IsTailRow}
 pub use Rattle.bfd_script.specs.declared.line.words.Version.{Version}
 pub use Rattle.bfd_script.proofs.Elements.{each_more, each_to}

@@ -1,12 +1,12 @@
 -- A tick by which a periodic packet is due and nothing else is that packet, if no Echo function is needed and none runs.
-use Rattle.bfd_session.proofs.Common.{◌≡◌, ℕ, refl, None, List, Config, Vars, Mark, course, begins, Machine, Pair}
-use Rattle.bfd_session.proofs.Common.{flow, pair_of, IsEchoOver, tick, begun, Out}
+use Rattle.bfd_session.proofs.Common.{◌≡◌, ℕ, refl, None, List, Config, Vars, Mark, course, begins, Machine, PointToPoint}
+use Rattle.bfd_session.proofs.Common.{flow, point_of, IsEchoOver, tick, begun, Out}
 use Rattle.bfd_rules.specs.EventFrame.{announces}
 use Rattle.bfd_p2p.specs.Beat.{IsBeat, redrawn_at, sent_at}
 use Rattle.bfd_session.proofs.Repeated.{settles_none, turns_none, unwanted}
 
 pub beat_tick : (m : Machine) (limit eff next : ℕ) (os outs : List Out) → IsBeat m.config limit eff m.vars os outs
-    → tick (Pair m.config) limit eff (begun None (pair_of m None next) os)
+    → tick (PointToPoint m.config) limit eff (begun None (point_of m None next) os)
     ≡ flow (course (redrawn_at eff m.vars) (announces m.vars (begins m.vars)) outs) None next
 unfolding tick
 beat_tick m limit eff next os outs h =

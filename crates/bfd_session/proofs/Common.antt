@@ -55,17 +55,17 @@ pub use Rattle.bfd_session.specs.Due.{detects, detects_by, due, due_by, tick_of}
 pub use Rattle.bfd_session.specs.Echoing.{IsEchoOver, back_to, echo_due, echoing, goes_on, interval_of, number_after, number_by, settled_by}
 pub use Rattle.bfd_session.specs.Echoing.{settled_running, should_echo, turns_echo}
 unfoldable pub use Rattle.bfd_session.specs.Echoing.{settles_echo}
-pub use Rattle.bfd_session.specs.Inside.{head_of, pair_of, running_of, initiator_of, tail_of}
+pub use Rattle.bfd_session.specs.Inside.{head_of, point_of, running_of, initiator_of, tail_of}
 pub use Rattle.bfd_session.specs.Kinds.{Flow, Running, along, configs_of, discr_of, flow, left_by}
 pub use Rattle.bfd_session.specs.Rows.{AreFit, Ascends, Differs, kind_of, row_of, row_of_reflector, rows_of, same_selector, table_of}
-pub use Rattle.bfd_session.specs.Step.{CanTake, HasSize, IsFit, IsFor, IsPairSound, IsSound, TakesPacket, acted, answer_of}
+pub use Rattle.bfd_session.specs.Step.{CanTake, HasSize, IsFit, IsFor, IsPointSound, IsSound, TakesPacket, acted, answer_of}
 pub use Rattle.bfd_session.specs.Step.{answer_to_packet, begun, finished, next, reply_from, settled, sound_by, started, step_from}
 pub use Rattle.bfd_session.specs.Step.{tick_from, tick_next}
 unfoldable pub use Rattle.bfd_session.specs.Step.{emits, reply, step, stepped_flow, tick, tick_emits, ticked_flow}
 pub use Rattle.bfd_session.specs.declared.event.Event.{Event}
 pub use Rattle.bfd_session.specs.declared.event.Event.TheVariants.{Command, Packet, Returned, Show}
 pub use Rattle.bfd_session.specs.declared.event.SessionConfig.{SessionConfig}
-pub use Rattle.bfd_session.specs.declared.event.SessionConfig.TheVariants.{Head, Pair, Initiator, Tail}
+pub use Rattle.bfd_session.specs.declared.event.SessionConfig.TheVariants.{Head, PointToPoint, Initiator, Tail}
 pub use Rattle.bfd_packet.specs.KeyChain.{KeyChain, no_key, place_of}
 pub use Rattle.bfd_p2p.specs.Receive.{authenticated, is_single, judged_by, session_fails, session_tests, verdict_by, verdict_on}
 pub use Rattle.bfd_rules.specs.Jitter.{pick}

@@ -4,7 +4,8 @@ use Rattle.bfd_session.proofs.Common.{◌≡◌, ◌||◌, ◌++◌, ◌∷◌, 
 use Rattle.bfd_session.proofs.Common.{Result, cond, if◌then◌else◌, take, find, and_parts, list_all, Arrival, Port, State, Test, Ttl}
 use Rattle.bfd_session.proofs.Common.{AuthUnexpected, AuthMissing, AuthType, AuthKey, AuthLen, AuthSeq, AuthDigest, SeqState, unless}
 use Rattle.bfd_session.proofs.Common.{fields_of, Config, Vars, is_admin_down, Row, is_multipoint, table_fails, tests_on_header}
-use Rattle.bfd_session.proofs.Common.{tests_on_table, first_table_failing, SessionConfig, Pair, Packet, Running, reply, answer_to_packet}
+use Rattle.bfd_session.proofs.Common.{tests_on_table, first_table_failing, SessionConfig, PointToPoint, Packet, Running, reply}
+use Rattle.bfd_session.proofs.Common.{answer_to_packet}
 use Rattle.bfd_session.proofs.Common.{Head, KeyChain, session_fails, session_tests, authenticated, judged_by, verdict_by, verdict_on}
 use Rattle.std.proofs.lemmas.List.Folds.{find-append}
 use Rattle.std.specs.Option.{option_or}
@@ -14,7 +15,7 @@ use Rattle.bfd_auth.specs.Verdict.{verdict, section_fails, section_tests}
 use Rattle.bfd_rules.specs.declared.verdict.Verdict.{Verdict}
 use Rattle.bfd_rules.specs.declared.verdict.Verdict.TheVariants.{Accepted, Dropped}
 use Rattle.bfd_session.specs.Step.{verdict_by as verdict_of}
-use Rattle.bfd_session.specs.Discards.{unauthentic, pair_fails, plain_fails, own_fails, own_tests, first_own_failing, discards}
+use Rattle.bfd_session.specs.Discards.{unauthentic, point_fails, plain_fails, own_fails, own_tests, first_own_failing, discards}
 use Rattle.bfd_session.specs.Discards.{first_discarding, test_of, judging, answer_by}
 
 -- two sentences that agree on the tests of a list find the same
@@ -57,17 +58,17 @@ unauthentic_not (Some keys) seq raw AuthSeq other = cc
 unauthentic_not (Some keys) seq raw AuthDigest other = cc
 unauthentic_not keys seq raw test other = refl
 
-pair_not : (c : Config) (v : Vars) (ttl : ℕ) (raw : List ℕ) (test : Test) → is_shared test ≡ true → pair_fails c v ttl raw test ≡ false
-pair_not c v ttl raw Ttl shared = cc
-pair_not c v ttl raw AuthUnexpected shared = cc
-pair_not c v ttl raw AuthMissing shared = cc
-pair_not c v ttl raw AuthType shared = cc
-pair_not c v ttl raw AuthKey shared = cc
-pair_not c v ttl raw AuthLen shared = cc
-pair_not c v ttl raw AuthSeq shared = cc
-pair_not c v ttl raw AuthDigest shared = cc
-pair_not c v ttl raw AdminDown shared = cc
-pair_not c v ttl raw test shared = unauthentic_not c.keys v.seq (take (fields_of raw).length raw) test refl
+point_not : (c : Config) (v : Vars) (ttl : ℕ) (raw : List ℕ) (test : Test) → is_shared test ≡ true → point_fails c v ttl raw test ≡ false
+point_not c v ttl raw Ttl shared = cc
+point_not c v ttl raw AuthUnexpected shared = cc
+point_not c v ttl raw AuthMissing shared = cc
+point_not c v ttl raw AuthType shared = cc
+point_not c v ttl raw AuthKey shared = cc
+point_not c v ttl raw AuthLen shared = cc
+point_not c v ttl raw AuthSeq shared = cc
+point_not c v ttl raw AuthDigest shared = cc
+point_not c v ttl raw AdminDown shared = cc
+point_not c v ttl raw test shared = unauthentic_not c.keys v.seq (take (fields_of raw).length raw) test refl
 
 plain_not : (v : Vars) (raw : List ℕ) (test : Test) → is_shared test ≡ true → plain_fails v raw test ≡ false
 plain_not v raw AuthUnexpected shared = cc
@@ -75,7 +76,7 @@ plain_not v raw AdminDown shared = cc
 plain_not v raw _ shared = refl
 
 own_not : (c : SessionConfig) (v : Vars) (arrival : Arrival) (test : Test) → is_shared test ≡ true → own_fails c v arrival test ≡ false
-own_not (Pair c) v arrival test shared = pair_not c v arrival.ttl arrival.payload test shared
+own_not (PointToPoint c) v arrival test shared = point_not c v arrival.ttl arrival.payload test shared
 own_not (Head c) v arrival test shared = refl
 own_not c v arrival test shared = plain_not v arrival.payload test shared
 
@@ -103,7 +104,7 @@ table_first rows c v arrival = find_same (discards rows c v arrival) {q = λ tes
 -- no arrival fails a session's own tests for the table
 own_first : (rows : List Row) (c : SessionConfig) (v : Vars) (arrival : Arrival)
     → find (discards rows c v arrival) (own_tests c) ≡ first_own_failing c v arrival
-own_first rows (Pair c) v arrival = refl
+own_first rows (PointToPoint c) v arrival = refl
 own_first rows c v arrival = refl
 
 pub discards_first : (rows : List Row) (c : SessionConfig) (v : Vars) (arrival : Arrival)
@@ -145,22 +146,22 @@ announced_judged state None verified = refl
 announced_judged state (Some test) verified = refl
 
 -- no packet fails one of the tests on the configuration for its authentication section
-pair_same : (c : Config) (v : Vars) (ttl : ℕ) (raw : List ℕ) (test : Test) → is_first test ≡ true
-    → pair_fails c v ttl raw test ≡ session_fails c ttl (fields_of raw) test
-pair_same c v ttl raw Ttl first = or_nothing _ (unauthentic_not c.keys v.seq (take (fields_of raw).length raw) Ttl refl)
-pair_same c v ttl raw AuthUnexpected first = or_nothing _
+point_same : (c : Config) (v : Vars) (ttl : ℕ) (raw : List ℕ) (test : Test) → is_first test ≡ true
+    → point_fails c v ttl raw test ≡ session_fails c ttl (fields_of raw) test
+point_same c v ttl raw Ttl first = or_nothing _ (unauthentic_not c.keys v.seq (take (fields_of raw).length raw) Ttl refl)
+point_same c v ttl raw AuthUnexpected first = or_nothing _
     (unauthentic_not c.keys v.seq (take (fields_of raw).length raw) AuthUnexpected refl)
-pair_same c v ttl raw AuthMissing first = or_nothing _ (unauthentic_not c.keys v.seq (take (fields_of raw).length raw) AuthMissing refl)
-pair_same c v ttl raw _ first = cc
+point_same c v ttl raw AuthMissing first = or_nothing _ (unauthentic_not c.keys v.seq (take (fields_of raw).length raw) AuthMissing refl)
+point_same c v ttl raw _ first = cc
 
-pair_first : (c : Config) (v : Vars) (arrival : Arrival)
-    → first_own_failing (Pair c) v arrival ≡ test_of (verdict_on c arrival.ttl arrival.payload v)
-pair_first c v arrival =
+point_first : (c : Config) (v : Vars) (arrival : Arrival)
+    → first_own_failing (PointToPoint c) v arrival ≡ test_of (verdict_on c arrival.ttl arrival.payload v)
+point_first c v arrival =
     let raw : List ℕ = arrival.payload in
-    let fails = pair_fails c v arrival.ttl raw in
+    let fails = point_fails c v arrival.ttl raw in
     let first : Option Test = find (session_fails c arrival.ttl (fields_of raw)) session_tests in
     find-append fails session_tests (section_tests ++ AdminDown ∷ []) ∙ ap (λ o. option_or o (find fails (section_tests ++ AdminDown ∷ [])))
-    (find_same _ (pair_same c v arrival.ttl raw) session_tests refl)
+    (find_same _ (point_same c v arrival.ttl raw) session_tests refl)
     ∙ ap (λ o. option_or first o) (find-append fails section_tests (AdminDown ∷ []))
     ∙ sym (announced_judged v.state first (authenticated c.keys v.seq (fields_of raw) raw)
     ∙ ap (λ o. option_or first o) (section_first c.keys v.state v.seq raw))
@@ -176,7 +177,7 @@ plain_first false false = refl
 -- the verdict of a session of any kind; a head's tests are none
 
 pub verdict_first : (c : SessionConfig) (v : Vars) (arrival : Arrival) → first_own_failing c v arrival ≡ test_of (verdict_of c arrival v)
-verdict_first (Pair c) v arrival = pair_first c v arrival
+verdict_first (PointToPoint c) v arrival = point_first c v arrival
 verdict_first (Head c) v arrival = refl
 verdict_first c v arrival = plain_first (fields_of arrival.payload).auth (is_admin_down v.state)
 

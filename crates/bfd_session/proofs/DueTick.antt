@@ -1,9 +1,9 @@
 -- A tick comes exactly when the moment that it rounds has come; and what a tick leaves is not due by it.
 use Rattle.bfd_session.proofs.Common.{◌≡◌, ◌||◌, ◌*◌, ℕ, false, refl, sym, ap, ◌∙◌, Option, None, Some, arith, or_parts, nat_tests, nat_le}
-use Rattle.bfd_session.proofs.Common.{ceil_tick, floor_tick, has_come, sooner, Echo, due, tick_of, IsEchoOver, pair_of, initiator_of}
+use Rattle.bfd_session.proofs.Common.{ceil_tick, floor_tick, has_come, sooner, Echo, due, tick_of, IsEchoOver, point_of, initiator_of}
 use Rattle.bfd_session.proofs.Common.{head_of}
 use Rattle.bfd_session.proofs.Common.{tail_of}
-use Rattle.bfd_p2p.specs.Machine as pair
+use Rattle.bfd_p2p.specs.Machine as point
 use Rattle.bfd_p2p.specs.Over.{IsOver}
 use Rattle.bfd_sbfd.specs.Machine as initiator
 use Rattle.bfd_sbfd.specs.Over as initiator_left
@@ -60,9 +60,9 @@ due_later limit t m at h = cc (ap (λ (l : ℕ). floor_tick l) at, floor-tick t)
 
 -- what a tick leaves of each kind of session is not due by it
 
-pub pair_over : (m : pair.Machine) (echo : Option Echo) (next limit t : ℕ) → limit ≡ 1000 * t → IsOver limit m.vars
-    → IsEchoOver limit m.config m.vars echo → has_come t (due (pair_of m echo next)) ≡ false
-pair_over m echo next limit t at over echo_over = neither t _ _ (later limit t _ at over.late)
+pub point_over : (m : point.Machine) (echo : Option Echo) (next limit t : ℕ) → limit ≡ 1000 * t → IsOver limit m.vars
+    → IsEchoOver limit m.config m.vars echo → has_come t (due (point_of m echo next)) ≡ false
+point_over m echo next limit t at over echo_over = neither t _ _ (later limit t _ at over.late)
     (neither t _ _ (later limit t _ at over.seq_late)
     (neither t _ _ (due_later limit t _ at over.due_later) (due_later limit t _ at echo_over)))
 

@@ -3,12 +3,12 @@ use Rattle.bfd_session.proofs.Common.{◌≡◌, ◌+◌, ◌-◌, ◌==◌, ◌
 use Rattle.bfd_session.proofs.Common.{[], arith, if◌then◌else◌, common_steps, Down, Up, floor_tick, has_come, Config, Vars, deadline}
 use Rattle.bfd_session.proofs.Common.{seq_deadline, is_up, demand_here, may_send, poll_again, poll_renewed, used_renewed, demand_renewed}
 use Rattle.bfd_session.proofs.Common.{renewed, Course, enters, changes, sends, is_unannounced, redrawn, renews, moves, transmits, failed}
-use Rattle.bfd_session.proofs.Common.{HeadConfig, Echo, EchoResult, Failed, SessionConfig, Pair, Running, Flow, detects, detects_by}
+use Rattle.bfd_session.proofs.Common.{HeadConfig, Echo, EchoResult, Failed, SessionConfig, PointToPoint, Running, Flow, detects, detects_by}
 use Rattle.bfd_session.proofs.Common.{settled_by, settled_running, settles_echo, echoing, sound_by, tick, tick_next, ticked_flow, begun}
 use Rattle.bfd_session.proofs.Common.{Initiator, Head, Tail, option_map, IsSound}
 use Rattle.std.proofs.Math.Bool.{or-false}
 use Rattle.bfd_packet.specs.States.{is_init_or_up}
-use Rattle.bfd_rules.specs.Sound as pair
+use Rattle.bfd_rules.specs.Sound as point
 use Rattle.bfd_rules.proofs.Heard.{alike, drawn_heard}
 use Rattle.bfd_p2p.specs.Settle as settling
 use Rattle.bfd_p2p.specs.Finish as finishing
@@ -167,7 +167,8 @@ head_heard c limit eff s = head_finish_heard c eff (head_settle.settle c limit e
 tick_by : (c : SessionConfig) (s : Running) (limit eff : ℕ)
     → is_none (tick c limit eff (begun None s [])).course.vars.heard ≡ (is_none s.vars.heard || has_come limit (detects_by c s.vars))
 unfolding tick
-tick_by (Pair c) s limit eff = finish_none c eff _ ∙ settles_echo_none c limit eff _ ∙ settle_none c limit eff (begun None s []).course
+tick_by (PointToPoint c) s limit eff = finish_none c eff _ ∙ settles_echo_none c limit eff _
+    ∙ settle_none c limit eff (begun None s []).course
 tick_by (Initiator c) s limit eff = none_by (has_come limit (initiator_deadline s.vars)) s.vars.heard
     (initiator.tick_heard c limit eff (begun None s []).course)
 tick_by (Head c) s limit eff = cc (head_heard c limit eff (begun None s []).course, or-false (is_none s.vars.heard))
@@ -188,7 +189,7 @@ mapped_there f (Some x) h = refl
 demand_up : (v : Vars) → demand_here v ≡ true → v.state ≡ Up
 demand_up v h = grind (arith, common_steps)
 
-deadline_heard : {c : Config} {v : Vars} (here : Bool) → demand_here v ≡ here → pair.IsPlain c v → IsSome (deadline v) → IsSome v.heard
+deadline_heard : {c : Config} {v : Vars} (here : Bool) → demand_here v ≡ here → point.IsPlain c v → IsSome (deadline v) → IsSome v.heard
 deadline_heard {v} true is plain there = plain.up_heard (demand_up v is)
 deadline_heard {v} false is plain there = mapped_there _ v.heard (rw is at there)
 
@@ -197,7 +198,7 @@ initiator_heard v true is there = mapped_there (λ heard. heard + wait v) v.hear
 initiator_heard v false is there = cc
 
 heard_by : (c : SessionConfig) (s : Running) → sound_by c s → IsSome (detects_by c s.vars) → IsSome s.vars.heard
-heard_by (Pair c) s sound there = deadline_heard (demand_here s.vars) refl sound.vars.steady.plain there
+heard_by (PointToPoint c) s sound there = deadline_heard (demand_here s.vars) refl sound.vars.steady.plain there
 heard_by (Initiator c) s sound there = initiator_heard s.vars (is_up s.vars.state) refl there
 heard_by (Head c) s sound there = cc
 heard_by (Tail c) s sound there = mapped_there _ s.vars.heard there

@@ -4,7 +4,7 @@ use Rattle.bfd_session.proofs.Common.{◌≡◌, ◌++◌, ◌&&◌, ℕ, Bool, 
 use Rattle.bfd_session.proofs.Common.{Result, Ok, Err, Control, Test, SeqState, Cmd, Config, Vars, floor_tick, has_come, may_send, deadline}
 use Rattle.bfd_session.proofs.Common.{seq_deadline, is_admin_down, Course, is_unannounced, based, redrawn, renews, moves, transmits}
 use Rattle.bfd_session.proofs.Common.{refusal}
-use Rattle.bfd_session.proofs.Common.{commanded, done, Echo, EchoResult, Nothing, Sent, Failed, SessionConfig, Pair, Event, Packet}
+use Rattle.bfd_session.proofs.Common.{commanded, done, Echo, EchoResult, Nothing, Sent, Failed, SessionConfig, PointToPoint, Event, Packet}
 use Rattle.bfd_session.proofs.Common.{Returned, Command, Show, Running, Flow, along, settled_by, settled_running, settles_echo, echoing}
 use Rattle.bfd_session.proofs.Common.{step, tick, acted, finished, begun, step_from, stepped_flow, emits, answer_of, reply, reply_from}
 use Rattle.bfd_session.proofs.Common.{tick_from, ticked_flow, tick_emits, Initiator, Head, Tail, settled, Out, after, either, changes-after}
@@ -156,7 +156,7 @@ settles_echo-after c limit eff os f = settled_running-after c limit eff (echoing
 
 settled-after : (c : SessionConfig) (limit eff : ℕ) (os : List Out) (f : Flow)
     → settled c limit eff (ahead os f) ≡ ahead os (settled c limit eff f)
-settled-after (Pair c) limit eff os f =
+settled-after (PointToPoint c) limit eff os f =
     cc (settle-after c limit eff os f.course, settles_echo-after c limit eff os (along f (settling.settle c limit eff f.course)))
 settled-after (Initiator c) limit eff os f = cc (initiator.settle-after c limit eff os f.course)
 settled-after (Head c) limit eff os f = cc (head.settle-after c limit eff os f.course)
@@ -164,10 +164,10 @@ settled-after (Tail c) limit eff os f = cc (tail.settle-after c limit os f.cours
 
 acted-after : (c : SessionConfig) (eff : ℕ) (event : Event) (os : List Out) (f : Flow)
     → acted c eff event (ahead os f) ≡ ahead os (acted c eff event f)
-acted-after (Pair c) eff (Packet arrival) os f = cc (received-after c eff _ _ os f.course)
-acted-after (Pair c) eff (Returned sequence) os f = refl
-acted-after (Pair c) eff (Command cmd) os f = cc (commanded-after c eff cmd os f.course)
-acted-after (Pair c) eff Show os f = refl
+acted-after (PointToPoint c) eff (Packet arrival) os f = cc (received-after c eff _ _ os f.course)
+acted-after (PointToPoint c) eff (Returned sequence) os f = refl
+acted-after (PointToPoint c) eff (Command cmd) os f = cc (commanded-after c eff cmd os f.course)
+acted-after (PointToPoint c) eff Show os f = refl
 acted-after (Initiator c) eff (Packet arrival) os f = cc (initiator.received-after c eff _ os f.course)
 acted-after (Initiator c) eff (Command cmd) os f = cc (initiator.commanded-after c cmd os f.course)
 acted-after (Head c) eff (Command cmd) os f = cc (head.commanded-after c cmd os f.course)
@@ -176,7 +176,7 @@ acted-after (Tail c) eff (Command cmd) os f = cc (tail.commanded-after c cmd os 
 acted-after c eff event os f = refl
 
 finished-after : (c : SessionConfig) (eff : ℕ) (os : List Out) (f : Flow) → finished c eff (ahead os f) ≡ ahead os (finished c eff f)
-finished-after (Pair c) eff os f = cc (finish-after c eff os f.course)
+finished-after (PointToPoint c) eff os f = cc (finish-after c eff os f.course)
 finished-after (Initiator c) eff os f = cc (initiator.finish-after c eff os f.course)
 finished-after (Head c) eff os f = cc (head.finish-after c eff os f.course)
 finished-after (Tail c) eff os f = refl
@@ -236,7 +236,7 @@ tick_outs s limit eff os = ap (λ f. f.course.outs) (tick-from s limit eff os)
 
 answer_of-after : (c : SessionConfig) (event : Event) (os : List Out) (f : Flow) → answer_of c event (ahead os f) ≡ answer_of c event f
 answer_of-after c (Packet arrival) os f = refl
-answer_of-after (Pair c) (Returned sequence) os f = refl
+answer_of-after (PointToPoint c) (Returned sequence) os f = refl
 answer_of-after c event os f = refl
 
 pub reply_law : (s : Running) (eff : ℕ) (event : Event) (os : List Out) → reply_from eff event s os ≡ reply eff event s
@@ -252,7 +252,7 @@ reply_law s eff event os =
 
 -- an initiator, a head or a tail
 abbrev pub IsPlainKind : SessionConfig → Type 0
-IsPlainKind (Pair c) = ⊥
+IsPlainKind (PointToPoint c) = ⊥
 IsPlainKind _ = Unit {0}
 
 -- the event leaves the Echo function, and the number of the next
@@ -263,7 +263,7 @@ pub record LeavesEcho (f : Flow) (echo : Option Echo) (number : ℕ) : Type 0 wh
 pub step_leaves : (c : SessionConfig) (eff : ℕ) (event : Event) (f : Flow) → IsPlainKind c
     → LeavesEcho (step c eff event f) f.echo f.echo_next
 unfolding step
-step_leaves (Pair c) eff event f kind = elim kind [ ]
+step_leaves (PointToPoint c) eff event f kind = elim kind [ ]
 step_leaves (Initiator c) eff (Packet arrival) f kind = record { echo_kept = refl; number_kept = refl }
 step_leaves (Head c) eff (Packet arrival) f kind = record { echo_kept = refl; number_kept = refl }
 step_leaves (Tail c) eff (Packet arrival) f kind = record { echo_kept = refl; number_kept = refl }
@@ -275,7 +275,7 @@ plain_step s eff event kind = step_leaves s.config eff event _ kind
 
 tick_leaves : (c : SessionConfig) (limit eff : ℕ) (f : Flow) → IsPlainKind c → LeavesEcho (tick c limit eff f) f.echo f.echo_next
 unfolding tick
-tick_leaves (Pair c) limit eff f kind = elim kind [ ]
+tick_leaves (PointToPoint c) limit eff f kind = elim kind [ ]
 tick_leaves c limit eff f kind = record { echo_kept = refl; number_kept = refl }
 
 pub plain_tick : (s : Running) (limit eff : ℕ) → IsPlainKind s.config → LeavesEcho (ticked_flow limit eff s) s.echo s.echo_next

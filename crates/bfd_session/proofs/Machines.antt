@@ -1,7 +1,7 @@
 -- A machine at the end of an event, as a session.
-use Rattle.bfd_session.proofs.Common.{◌≡◌, ℕ, Option, None, sym, ap, ◌∙◌, Echo, pair_of, initiator_of, head_of, tail_of, Running, Flow}
+use Rattle.bfd_session.proofs.Common.{◌≡◌, ℕ, Option, None, sym, ap, ◌∙◌, Echo, point_of, initiator_of, head_of, tail_of, Running, Flow}
 use Rattle.bfd_session.proofs.Common.{left_by}
-use Rattle.bfd_p2p.specs.Machine as pair
+use Rattle.bfd_p2p.specs.Machine as point
 use Rattle.bfd_sbfd.specs.Machine as initiator
 use Rattle.bfd_mp.specs.Machine as tree
 use Rattle.bfd_session.proofs.Front.{LeavesEcho}
@@ -11,10 +11,10 @@ running : {s t : Running} → s.config ≡ t.config → s.vars ≡ t.vars → s.
 running {s} {t} config vars echo number = ap (λ c. record s { config = c }) config ∙ ap (λ v. record s { config = t.config; vars = v }) vars
     ∙ ap (λ e. record s { config = t.config; vars = t.vars; echo = e }) echo ∙ ap (λ n. record t { echo_next = n }) number
 
-pub pair_with : (m : pair.Machine) {n : pair.Machine} (old : Option Echo) {new : Option Echo} (before : ℕ) {after : ℕ} (f : Flow)
+pub point_with : (m : point.Machine) {n : point.Machine} (old : Option Echo) {new : Option Echo} (before : ℕ) {after : ℕ} (f : Flow)
     → n.config ≡ m.config → n.vars ≡ f.course.vars → new ≡ f.echo → after ≡ f.echo_next
-    → pair_of n new after ≡ left_by f (pair_of m old before)
-pair_with m old before f config vars echo number = running (cc) vars echo number
+    → point_of n new after ≡ left_by f (point_of m old before)
+point_with m old before f config vars echo number = running (cc) vars echo number
 
 pub initiator_with : (m : initiator.Machine) {n : initiator.Machine} {f : Flow} → n.config ≡ m.config → n.vars ≡ f.course.vars
     → LeavesEcho f None 0

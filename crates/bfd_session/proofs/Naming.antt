@@ -3,7 +3,8 @@ use Rattle.bfd_session.proofs.Common.{◌≡◌, ◌&&◌, ℕ, Bool, true, fals
 use Rattle.bfd_session.proofs.Common.{if◌then◌else◌, AllByRecursion, Control, Test, SeqState, floor_tick, has_come, Cmd, Config, Vars}
 use Rattle.bfd_session.proofs.Common.{may_send, deadline, seq_deadline, is_admin_down, Course, changes, sends, is_unannounced, redrawn}
 use Rattle.bfd_session.proofs.Common.{renews}
-use Rattle.bfd_session.proofs.Common.{moves, transmits, refusal, commanded, Echo, EchoResult, Nothing, Failed, SessionConfig, Pair, Event}
+use Rattle.bfd_session.proofs.Common.{moves, transmits, refusal, commanded, Echo, EchoResult, Nothing, Failed, SessionConfig, PointToPoint}
+use Rattle.bfd_session.proofs.Common.{Event}
 use Rattle.bfd_session.proofs.Common.{Packet, Returned, Command, Show, Running, Flow, discr_of, settled_by, settled_running, settles_echo}
 use Rattle.bfd_session.proofs.Common.{echoing, step, tick, acted, finished, begun, stepped_flow, ticked_flow, emits, tick_emits, Initiator}
 use Rattle.bfd_session.proofs.Common.{Head}
@@ -141,17 +142,17 @@ settles_echo-names c limit eff f h = settled_running-names c limit eff (echoing 
 
 settled-names : (c : SessionConfig) (limit eff : ℕ) (f : Flow) → Names (discr_of c) f.course
     → Names (discr_of c) (settled c limit eff f).course
-settled-names (Pair c) limit eff f h = settles_echo-names c limit eff _ (settle-names c limit eff h)
+settled-names (PointToPoint c) limit eff f h = settles_echo-names c limit eff _ (settle-names c limit eff h)
 settled-names (Initiator c) limit eff f h = record { all = initiator.settle_names c _ limit eff f.course (own_name c.discr) h.all }
 settled-names (Head c) limit eff f h = record { all = tree.head_settle_names c _ limit eff f.course (own_name c.discr) h.all }
 settled-names (Tail c) limit eff f h = record { all = tree.tail_settle_names c _ limit f.course (own_name c.discr) h.all }
 
 acted-names : (c : SessionConfig) (eff : ℕ) (event : Event) (f : Flow) → Names (discr_of c) f.course
     → Names (discr_of c) (acted c eff event f).course
-acted-names (Pair c) eff (Packet arrival) f h = received-names c eff _ _ h
-acted-names (Pair c) eff (Returned sequence) f h = h
-acted-names (Pair c) eff (Command cmd) f h = commanded-names c eff cmd h
-acted-names (Pair c) eff Show f h = h
+acted-names (PointToPoint c) eff (Packet arrival) f h = received-names c eff _ _ h
+acted-names (PointToPoint c) eff (Returned sequence) f h = h
+acted-names (PointToPoint c) eff (Command cmd) f h = commanded-names c eff cmd h
+acted-names (PointToPoint c) eff Show f h = h
 acted-names (Initiator c) eff (Packet arrival) f h = record {
   all = initiator.received_names c _ eff arrival.payload f.course (own_name c.discr) h.all;
 }
@@ -164,7 +165,7 @@ acted-names (Tail c) eff (Command cmd) f h = record { all = tree.tail_commanded_
 acted-names c eff event f h = h
 
 finished-names : (c : SessionConfig) (eff : ℕ) (f : Flow) → Names (discr_of c) f.course → Names (discr_of c) (finished c eff f).course
-finished-names (Pair c) eff f h = finish-names c eff h
+finished-names (PointToPoint c) eff f h = finish-names c eff h
 finished-names (Initiator c) eff f h = record { all = initiator.finish_names c _ eff f.course (own_name c.discr) h.all }
 finished-names (Head c) eff f h = record { all = tree.head_finish_names c _ eff f.course (own_name c.discr) h.all }
 finished-names (Tail c) eff f h = h

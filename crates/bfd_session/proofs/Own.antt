@@ -6,7 +6,8 @@ use Rattle.bfd_session.proofs.Common.{LengthMin, LengthOver, DetectMult, SeqStat
 use Rattle.bfd_session.proofs.Common.{Cmd, Config, Vars, is_admin_down, poll_renewed, used_renewed, demand_renewed, renewed, Course, sends}
 use Rattle.bfd_session.proofs.Common.{IsPlain, IsPlace, HasPeerMult, IsSteady, is_interval, renews, moves, transmits, key_place}
 use Rattle.bfd_session.proofs.Common.{is_wrong_kind, is_out_of_range, refusal, path_done, demand_done, done, commanded, HeadConfig, Echo}
-use Rattle.bfd_session.proofs.Common.{HasMoments, SessionConfig, Pair, Event, Packet, Returned, Command, Show, Running, Flow, left_by}
+use Rattle.bfd_session.proofs.Common.{HasMoments, SessionConfig, PointToPoint, Event, Packet, Returned, Command, Show, Running, Flow}
+use Rattle.bfd_session.proofs.Common.{left_by}
 use Rattle.bfd_session.proofs.Common.{echoing, back_to, CanTake, HasSize, step, acted, begun, next, stepped_flow, Initiator, Head, Tail}
 use Rattle.bfd_session.proofs.Common.{option_map, KeyChain, place_of, no_key, returned_moments}
 use Rattle.std.proofs.lemmas.List.Quantifiers.{position-Some}
@@ -23,8 +24,8 @@ use Rattle.bfd_mp.specs.Sound.{IsHeadSteady, IsHeadSound, IsTailSound}
 use Rattle.bfd_mp.proofs.Soundness as tree
 use Rattle.bfd_session.specs.Step as session
 use Rattle.bfd_session.proofs.Front.{LeavesEcho, step_leaves}
-use Rattle.bfd_session.proofs.Soundness.{IsPairSteady, poll_plain, used_plain, demand_plain, enters_plain, renews_steady, moves_steady}
-use Rattle.bfd_session.proofs.Soundness.{choice_steady, echoing_moments, pair_settled_steady, pair_finished_sound}
+use Rattle.bfd_session.proofs.Soundness.{IsPointSteady, poll_plain, used_plain, demand_plain, enters_plain, renews_steady, moves_steady}
+use Rattle.bfd_session.proofs.Soundness.{choice_steady, echoing_moments, point_settled_steady, point_finished_sound}
 
 -- nothing found: the first of the rest isn't
 found_none : {X : Type 0} → (b : Bool) (x : X) (o : Option X) → cond b (Some x) o ≡ None → (b ≡ false) × (o ≡ None)
@@ -254,8 +255,9 @@ back_moments : {eff : ℕ} (sequence : ℕ) (running echo : Option Echo) → eff
 back_moments sequence None echo h runs moments = moments
 back_moments {eff} sequence (Some e) echo h runs moments = returned_moments eff sequence e h runs
 
-acted_steady : {c : Config} {eff : ℕ} (event : Event) {f : Flow} → eff < moment_bound → CanTake (Pair c) event → HasSize (Pair c) event
-    → IsPairSteady c f → IsPairSteady c (acted (Pair c) eff event f)
+acted_steady : {c : Config} {eff : ℕ} (event : Event) {f : Flow} → eff < moment_bound → CanTake (PointToPoint c) event
+    → HasSize (PointToPoint c) event
+    → IsPointSteady c f → IsPointSteady c (acted (PointToPoint c) eff event f)
 unfolding receiving.received
 acted_steady {c} {eff} (Packet arrival) {f} h takes sized steady = record {
   vars = received_on_steady c eff (fields_of arrival.payload) _ f.course h
@@ -274,11 +276,12 @@ acted_steady Show h takes sized steady = steady
 stamped_steady : {c : Config} {eff : ℕ} {v : Vars} → eff < moment_bound → IsSteady c v → IsSteady c (record v { at = eff })
 stamped_steady h steady = grind (arith, common_steps)
 
-pair_sound : {c : Config} {s : Running} {eff : ℕ} (event : Event) → eff < moment_bound → CanTake (Pair c) event → HasSize (Pair c) event
-    → session.IsPairSound c s → session.IsPairSound c (left_by (step (Pair c) eff event (begun (Some eff) s [])) s)
+point_sound : {c : Config} {s : Running} {eff : ℕ} (event : Event) → eff < moment_bound → CanTake (PointToPoint c) event
+    → HasSize (PointToPoint c) event
+    → session.IsPointSound c s → session.IsPointSound c (left_by (step (PointToPoint c) eff event (begun (Some eff) s [])) s)
 unfolding step
-pair_sound {c} {s} {eff} event h takes sized sound = pair_finished_sound s h (acted_steady event h takes sized
-    (pair_settled_steady c eff (begun (Some eff) s []) h record { vars = stamped_steady h sound.vars.steady; moments = sound.moments }))
+point_sound {c} {s} {eff} event h takes sized sound = point_finished_sound s h (acted_steady event h takes sized
+    (point_settled_steady c eff (begun (Some eff) s []) h record { vars = stamped_steady h sound.vars.steady; moments = sound.moments }))
 
 -- what an event of another kind leaves of the variables, and of the Echo function
 
@@ -312,7 +315,7 @@ plain_sound IsVars none left vars = record {
 
 sound_after : (c : SessionConfig) (s : Running) {eff : ℕ} (event : Event) → eff < moment_bound → CanTake c event → HasSize c event
     → session.sound_by c s → session.sound_by c (left_by (step c eff event (begun (Some eff) s [])) s)
-sound_after (Pair c) s event h takes sized sound = pair_sound event h takes sized sound
+sound_after (PointToPoint c) s event h takes sized sound = point_sound event h takes sized sound
 sound_after (Initiator c) s {eff} event h takes sized sound =
     plain_sound (IsInitiatorSound c) sound.echoless (step_leaves (Initiator c) eff event (begun (Some eff) s []) tt)
     (initiator_vars event (begun (Some eff) s []) h sized (initiator.stamped_steady c eff _ h sound.vars.steady))

@@ -1,6 +1,7 @@
 -- A packet with nothing new for a point-to-point session in Up is the whole event, if no Echo function is needed and none runs.
 use Rattle.bfd_session.proofs.Common.{◌≡◌, ◌&&◌, ℕ, Bool, true, false, refl, None, Some, List, Config, Vars, Course, course, begins, is_up}
-use Rattle.bfd_session.proofs.Common.{is_single, Machine, Arrival, Pair, Packet, flow, pair_of, should_echo, settles_echo, turns_echo, step}
+use Rattle.bfd_session.proofs.Common.{is_single, Machine, Arrival, PointToPoint, Packet, flow, point_of, should_echo, settles_echo}
+use Rattle.bfd_session.proofs.Common.{turns_echo, step}
 use Rattle.bfd_session.proofs.Common.{begun, reply_from, Out}
 use Rattle.bfd_session.specs.declared.event.Answer.TheVariants.{Handled}
 use Rattle.bfd_p2p.specs.Again.{IsAgain, heard_again}
@@ -23,7 +24,7 @@ pub turns_none : (c : Config) (eff next : ℕ) (s : Course) → should_echo c s.
 turns_none c eff next s off = rw off refl
 
 pub again_step : (m : Machine) (eff next : ℕ) (arrival : Arrival) (os : List Out) → IsAgain m.config eff arrival.ttl arrival.payload m.vars
-    → step (Pair m.config) eff (Packet arrival) (begun (Some eff) (pair_of m None next) os)
+    → step (PointToPoint m.config) eff (Packet arrival) (begun (Some eff) (point_of m None next) os)
     ≡ flow (course (heard_again eff m.vars) (begins (heard_again eff m.vars)) os) None next
 unfolding step
 again_step m eff next arrival os h =
@@ -40,7 +41,7 @@ again_step m eff next arrival os h =
 
 pub again_answer : (m : Machine) (eff next : ℕ) (arrival : Arrival) (os : List Out)
     → IsAgain m.config eff arrival.ttl arrival.payload m.vars
-    → reply_from eff (Packet arrival) (pair_of m None next) os ≡ Handled
+    → reply_from eff (Packet arrival) (point_of m None next) os ≡ Handled
 again_answer m eff next arrival os h =
     let c : Config = m.config in
     let v : Vars = record m.vars { at = eff } in

@@ -1,8 +1,9 @@
 -- A tick by which nothing is due leaves sound variables as they are, and emits nothing.
 use Rattle.bfd_session.proofs.Common.{◌≡◌, ◌*◌, ◌++◌, append-nil, ℕ, Bool, true, false, refl, ap, ◌∙◌, Option, None, Some, IsSome, IsTrue}
 use Rattle.bfd_session.proofs.Common.{◌↔◌, List, [], if◌then◌else◌, leb-false, has_come, sooner, Config, Vars, deadline, seq_deadline, Echo}
-use Rattle.bfd_session.proofs.Common.{SessionConfig, Pair, Running, Flow, due, due_by, tick_of, should_echo, echoing, interval_of, echo_due}
-use Rattle.bfd_session.proofs.Common.{settled_running, settles_echo, goes_on, number_by, number_after, turns_echo, IsPairSound, sound_by}
+use Rattle.bfd_session.proofs.Common.{SessionConfig, PointToPoint, Running, Flow, due, due_by, tick_of, should_echo, echoing, interval_of}
+use Rattle.bfd_session.proofs.Common.{echo_due}
+use Rattle.bfd_session.proofs.Common.{settled_running, settles_echo, goes_on, number_by, number_after, turns_echo, IsPointSound, sound_by}
 use Rattle.bfd_session.proofs.Common.{tick, tick_next, ticked_flow, tick_emits, begun, Initiator, Head, Tail, option_map, IsSound, Out}
 use Rattle.bfd_p2p.proofs.Repeated.{settle_rests, finish_rests}
 use Rattle.bfd_sbfd.specs.Waiting.{deadline as initiator_deadline}
@@ -46,10 +47,10 @@ turns_echo_rests c eff f both = ap (λ o. record f { echo = o; echo_next = numbe
 
 -- the whole tick
 
-pair_rests : {c : Config} {s : Running} (t eff : ℕ) → IsPairSound c s → has_come t (due_by (Pair c) s) ≡ false
-    → tick (Pair c) (1000 * t) eff (begun None s []) ≡ begun None s []
+point_rests : {c : Config} {s : Running} (t eff : ℕ) → IsPointSound c s → has_come t (due_by (PointToPoint c) s) ≡ false
+    → tick (PointToPoint c) (1000 * t) eff (begun None s []) ≡ begun None s []
 unfolding tick
-pair_rests {c} {s} t eff sound nothing =
+point_rests {c} {s} t eff sound nothing =
     let v : Vars = s.vars in
     let f : Flow = begun None s [] in
     let outer = parts t (tick_of (deadline v)) (sooner (tick_of (seq_deadline v)) (sooner v.tx_due (echo_due c v s.echo))) nothing in
@@ -66,7 +67,7 @@ pair_rests {c} {s} t eff sound nothing =
 tick_rests : (c : SessionConfig) (s : Running) (t eff : ℕ) → sound_by c s → has_come t (due_by c s) ≡ false
     → tick c (1000 * t) eff (begun None s []) ≡ begun None s []
 unfolding tick
-tick_rests (Pair c) s t eff sound nothing = pair_rests t eff sound nothing
+tick_rests (PointToPoint c) s t eff sound nothing = point_rests t eff sound nothing
 tick_rests (Initiator c) s t eff sound nothing =
     let both = parts t (tick_of (initiator_deadline s.vars)) s.vars.tx_due nothing in
     cc (initiator.tick_rests c (1000 * t) eff _ [] sound.vars (not_late t _ both.first) (not_due t _ both.second))

@@ -6,7 +6,7 @@ use Rattle.bfd_session.proofs.Common.{is_idle, poll_again, poll_renewed, used_re
 use Rattle.bfd_session.proofs.Common.{sends, draws, drawn, is_unannounced, based, redrawn, IsPlain, IsRenewed, HasPeerMult, IsSteady}
 use Rattle.bfd_session.proofs.Common.{renews}
 use Rattle.bfd_session.proofs.Common.{moves, transmits, failed, Echo, EchoResult, Nothing, Sent, Failed, HasMoments, outcome, SessionConfig}
-use Rattle.bfd_session.proofs.Common.{Pair, Running, Flow, left_by, should_echo, echoing, interval_of, settled_by, settled_running}
+use Rattle.bfd_session.proofs.Common.{PointToPoint, Running, Flow, left_by, should_echo, echoing, interval_of, settled_by, settled_running}
 use Rattle.bfd_session.proofs.Common.{settles_echo, goes_on, tick, tick_next, ticked_flow, begun, Initiator, Head, Tail, option_map, pick}
 use Rattle.bfd_session.proofs.Common.{begun_moments, settled_moments}
 use Rattle.bfd_rules.specs.declared.variables.Poll.{Poll}
@@ -228,7 +228,7 @@ finish_sound {c} {eff} s h steady = drawn_sound (finishing.extra c eff s).mark (
 
 -- the Echo function alongside the variables: its moments are moments, also while it runs when it shouldn't
 
-pub record IsPairSteady (c : Config) (f : Flow) : Type 0 where
+pub record IsPointSteady (c : Config) (f : Flow) : Type 0 where
   pub vars : IsSteady c f.course.vars
   pub moments : IfSome f.echo HasMoments
 
@@ -242,14 +242,14 @@ failed_steady s h steady = moves_steady s h (enters_plain Down 2 (omega arith) (
     record { heard_mult = steady.peer.heard_mult; seq_mult = steady.peer.seq_mult }
 
 settled_by_steady : {c : Config} {eff : ℕ} (result : EchoResult) {e : Echo} {f : Flow} → eff < moment_bound → HasMoments e
-    → IsPairSteady c f → IsPairSteady c (settled_by c eff result e f)
+    → IsPointSteady c f → IsPointSteady c (settled_by c eff result e f)
 unfolding sends
 settled_by_steady Nothing h moments steady = steady
 settled_by_steady (Sent bytes) h moments steady = record { vars = steady.vars; moments = moments }
 settled_by_steady Failed {f} h moments steady = record { vars = failed_steady f.course h steady.vars; moments = steady.moments }
 
 settled_running_steady : {c : Config} (limit : ℕ) {eff : ℕ} (echo : Option Echo) {f : Flow} → eff < moment_bound → IfSome echo HasMoments
-    → IsPairSteady c f → IsPairSteady c (settled_running c limit eff echo f)
+    → IsPointSteady c f → IsPointSteady c (settled_running c limit eff echo f)
 settled_running_steady limit None h moments steady = steady
 settled_running_steady {c} limit {eff} (Some e) {f} h moments steady =
     let v : Vars = f.course.vars in
@@ -263,15 +263,15 @@ running_moments false echo moments = tt
 pub echoing_moments : (c : Config) (v : Vars) (echo : Option Echo) → IfSome echo HasMoments → IfSome (echoing c v echo) HasMoments
 echoing_moments c v echo moments = running_moments (should_echo c v) echo moments
 
-settles_echo_steady : {c : Config} (limit : ℕ) {eff : ℕ} {f : Flow} → eff < moment_bound → IsPairSteady c f
-    → IsPairSteady c (settles_echo c limit eff f)
+settles_echo_steady : {c : Config} (limit : ℕ) {eff : ℕ} {f : Flow} → eff < moment_bound → IsPointSteady c f
+    → IsPointSteady c (settles_echo c limit eff f)
 unfolding settles_echo
 settles_echo_steady {c} limit {f} h steady =
     settled_running_steady limit (echoing c f.course.vars f.echo) h (echoing_moments c f.course.vars f.echo steady.moments) steady
 
-pub pair_settled_steady : (c : Config) (limit : ℕ) {eff : ℕ} (f : Flow) → eff < moment_bound → IsPairSteady c f
-    → IsPairSteady c (session.settled (Pair c) limit eff f)
-pair_settled_steady c limit f h steady = settles_echo_steady limit h
+pub point_settled_steady : (c : Config) (limit : ℕ) {eff : ℕ} (f : Flow) → eff < moment_bound → IsPointSteady c f
+    → IsPointSteady c (session.settled (PointToPoint c) limit eff f)
+point_settled_steady c limit f h steady = settles_echo_steady limit h
     record { vars = settle_steady limit f.course h steady.vars; moments = steady.moments }
 
 -- at the end of an event it runs exactly when it should
@@ -289,9 +289,9 @@ turned_moments : (should : Bool) {e : Echo} → HasMoments e → IfSome (if shou
 turned_moments true moments = moments
 turned_moments false moments = tt
 
-pub pair_finished_sound : {c : Config} {eff : ℕ} {f : Flow} (s : Running) → eff < moment_bound → IsPairSteady c f
-    → session.IsPairSound c (left_by (session.finished (Pair c) eff f) s)
-pair_finished_sound {c} {eff} {f} s h steady =
+pub point_finished_sound : {c : Config} {eff : ℕ} {f : Flow} (s : Running) → eff < moment_bound → IsPointSteady c f
+    → session.IsPointSound c (left_by (session.finished (PointToPoint c) eff f) s)
+point_finished_sound {c} {eff} {f} s h steady =
     let v : Vars = (finishing.finish c eff f.course).vars in record {
       vars = finish_sound f.course h steady.vars;
       echoes = turned_there (should_echo c v) (goes_on eff f.echo_next f.echo);
@@ -303,8 +303,8 @@ pair_finished_sound {c} {eff} {f} s h steady =
 sound_after : (c : SessionConfig) (s : Running) (limit : ℕ) {eff : ℕ} → eff < moment_bound → session.sound_by c s
     → session.sound_by c (left_by (tick c limit eff (begun None s [])) s)
 unfolding tick
-sound_after (Pair c) s limit h sound = pair_finished_sound s h
-    (pair_settled_steady c limit (begun None s []) h record { vars = sound.vars.steady; moments = sound.moments })
+sound_after (PointToPoint c) s limit h sound = point_finished_sound s h
+    (point_settled_steady c limit (begun None s []) h record { vars = sound.vars.steady; moments = sound.moments })
 sound_after (Initiator c) s limit {eff} h sound = record {
   vars = initiator.tick_sound c limit eff (begun None s []).course h sound.vars.steady;
   echoless = record { none = sound.echoless.none; none_sent = sound.echoless.none_sent };

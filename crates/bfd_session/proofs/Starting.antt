@@ -1,6 +1,6 @@
 -- What a session starts with: a point-to-point one is Down, so without an Echo function.
 use Rattle.bfd_session.proofs.Common.{◌≡◌, ◌&&◌, Bool, true, false, refl, None, IsTrue, ◌↔◌, List, [], ◌∷◌, map, Down, Config, Vars, begins}
-use Rattle.bfd_session.proofs.Common.{Machine, initial, made, is_echo_wanted, SessionConfig, should_echo, pair_of, IsPairSound, started}
+use Rattle.bfd_session.proofs.Common.{Machine, initial, made, is_echo_wanted, SessionConfig, should_echo, point_of, IsPointSound, started}
 use Rattle.bfd_session.proofs.Common.{configs_of, is_single}
 use Rattle.bfd_rules.specs.Sound.{IsSound}
 use Rattle.bfd_session.proofs.Renewing.{drawn_state}
@@ -22,7 +22,7 @@ neither true h = cc
 neither false h = (λ x. x, λ x. x)
 
 pub starts_sound : (m : Machine) (c : Config) → m.config ≡ c → m.vars ≡ made c → IsSound m.config m.vars
-    → IsPairSound m.config (pair_of m None 0)
+    → IsPointSound m.config (point_of m None 0)
 starts_sound m c config vars sound = record {
   vars = sound;
   echoes = neither (should_echo m.config m.vars) (cc (down_silent c (made c) (made_down c)));

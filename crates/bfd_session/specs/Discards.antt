@@ -17,7 +17,7 @@ use Rattle.bfd_p2p.specs.Receive as receive
 use Rattle.bfd_demux.specs.declared.row.Row.{Row}
 use Rattle.bfd_demux.specs.Selection.{is_multipoint, table_fails, tests_on_header, tests_on_table}
 use Rattle.bfd_session.specs.declared.event.SessionConfig.{SessionConfig}
-use Rattle.bfd_session.specs.declared.event.SessionConfig.TheVariants.{Pair, Initiator, Head, Tail}
+use Rattle.bfd_session.specs.declared.event.SessionConfig.TheVariants.{PointToPoint, Initiator, Head, Tail}
 use Rattle.bfd_session.specs.declared.event.Answer.{Answer}
 use Rattle.bfd_session.specs.declared.event.Answer.TheVariants.{Handled, Dropped}
 use Rattle.bfd_session.specs.Kinds.{Running}
@@ -29,14 +29,14 @@ unauthentic None seq raw test = false
 unauthentic (Some keys) seq raw test = section_fails keys seq raw test
 
 -- the sentence of each test of a point-to-point session
-abbrev pub pair_fails : Config → Vars → ℕ → List ℕ → Test → Bool
-pair_fails c v ttl raw AdminDown = is_admin_down v.state
-pair_fails c v ttl raw test =
+abbrev pub point_fails : Config → Vars → ℕ → List ℕ → Test → Bool
+point_fails c v ttl raw AdminDown = is_admin_down v.state
+point_fails c v ttl raw test =
     receive.session_fails c ttl (fields_of raw) test || unauthentic c.keys v.seq (take (fields_of raw).length raw) test
 
 -- those tests in their order: TTL and the A bit, the authentication section, AdminDown
-abbrev pub pair_tests : List Test
-pair_tests = receive.session_tests ++ (section_tests ++ AdminDown ∷ [])
+abbrev pub point_tests : List Test
+point_tests = receive.session_tests ++ (section_tests ++ AdminDown ∷ [])
 
 -- the sentence of each test of a session that uses no authentication and looks at no TTL
 abbrev pub plain_fails : Vars → List ℕ → Test → Bool
@@ -46,14 +46,14 @@ plain_fails v raw test = false
 
 -- the sentence of each test of a session; a head receives no packets
 abbrev pub own_fails : SessionConfig → Vars → Arrival → Test → Bool
-own_fails (Pair c) v arrival test = pair_fails c v arrival.ttl arrival.payload test
+own_fails (PointToPoint c) v arrival test = point_fails c v arrival.ttl arrival.payload test
 own_fails (Initiator c) v arrival test = plain_fails v arrival.payload test
 own_fails (Head c) v arrival test = false
 own_fails (Tail c) v arrival test = plain_fails v arrival.payload test
 
 -- the tests of a session: of an initiator (RFC 7880 section 7.3) and of a tail (RFC 8562 section 5.13) the A bit and AdminDown
 abbrev pub own_tests : SessionConfig → List Test
-own_tests (Pair c) = pair_tests
+own_tests (PointToPoint c) = point_tests
 own_tests (Initiator c) = AuthUnexpected ∷ AdminDown ∷ []
 own_tests (Head c) = []
 own_tests (Tail c) = AuthUnexpected ∷ AdminDown ∷ []

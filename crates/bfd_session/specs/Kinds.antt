@@ -4,11 +4,11 @@ use Rattle.bfd_rules.specs.declared.variables.Vars.{Vars}
 use Rattle.bfd_rules.specs.EventFrame.{Course}
 use Rattle.bfd_echo.specs.declared.echo.Echo.{Echo}
 use Rattle.bfd_session.specs.declared.event.SessionConfig.{SessionConfig}
-use Rattle.bfd_session.specs.declared.event.SessionConfig.TheVariants.{Pair, Initiator, Head, Tail}
+use Rattle.bfd_session.specs.declared.event.SessionConfig.TheVariants.{PointToPoint, Initiator, Head, Tail}
 
 -- the local discriminator of a session
 abbrev pub discr_of : SessionConfig → ℕ
-discr_of (Pair c) = c.discr
+discr_of (PointToPoint c) = c.discr
 discr_of (Initiator c) = c.discr
 discr_of (Head c) = c.discr
 discr_of (Tail c) = c.discr

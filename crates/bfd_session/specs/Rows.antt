@@ -12,7 +12,7 @@ use Rattle.bfd_demux.specs.declared.row.RowKind.TheVariants.{Reflect as ReflectR
 use Rattle.bfd_demux.specs.declared.row.RowKind.TheVariants.{Head as HeadRow, Tail as TailRow}
 use Rattle.bfd_demux.specs.Rows.{same_addresses}
 use Rattle.bfd_session.specs.declared.event.SessionConfig.{SessionConfig}
-use Rattle.bfd_session.specs.declared.event.SessionConfig.TheVariants.{Pair, Initiator, Head, Tail}
+use Rattle.bfd_session.specs.declared.event.SessionConfig.TheVariants.{PointToPoint, Initiator, Head, Tail}
 use Rattle.bfd_session.specs.Kinds.{discr_of}
 use Rattle.bfd_session.specs.Step.{IsFit}
 
@@ -24,7 +24,7 @@ kind_of Multi iface local remote = MultiRow local remote
 -- how a session's packets are distinguished: an initiator's by Your Discriminator alone (RFC 7880 section 7.3), a tail's by the
 -- head, the interface, the group and the source (RFC 8562 section 5.7); a head receives none
 abbrev pub row_kind : SessionConfig → RowKind
-row_kind (Pair c) = kind_of c.role c.iface c.local c.remote
+row_kind (PointToPoint c) = kind_of c.role c.iface c.local c.remote
 row_kind (Initiator c) = InitiatorRow
 row_kind (Head c) = HeadRow
 row_kind (Tail c) = TailRow c.head c.iface c.group c.source

@@ -7,7 +7,7 @@ use Rattle.bfd_rules.specs.Quantities as quantities
 use Rattle.bfd_sbfd.specs.Waiting as initiator
 use Rattle.bfd_mp.specs.Waiting as tail
 use Rattle.bfd_session.specs.declared.event.SessionConfig.{SessionConfig}
-use Rattle.bfd_session.specs.declared.event.SessionConfig.TheVariants.{Pair, Initiator, Head, Tail}
+use Rattle.bfd_session.specs.declared.event.SessionConfig.TheVariants.{PointToPoint, Initiator, Head, Tail}
 use Rattle.bfd_session.specs.declared.event.Shown.{Shown}
 use Rattle.bfd_session.specs.Kinds.{discr_of}
 
@@ -19,14 +19,14 @@ poll_number (UnderWay first) = 2
 
 -- the Desired Min TX Interval that the session advertises: a head's is the same in every state, and a tail, which sends nothing, has 0
 abbrev pub advertised : SessionConfig → Vars → ℕ
-advertised (Pair c) v = quantities.adv_tx v
+advertised (PointToPoint c) v = quantities.adv_tx v
 advertised (Initiator c) v = quantities.adv_tx v
 advertised (Head c) v = v.tx
 advertised (Tail c) v = 0
 
 -- its Detection Time; a head, which hears nothing, has 0
 abbrev pub waits : SessionConfig → Vars → ℕ
-waits (Pair c) v = quantities.detection_time v
+waits (PointToPoint c) v = quantities.detection_time v
 waits (Initiator c) v = initiator.wait v
 waits (Head c) v = 0
 waits (Tail c) v = tail.wait v

@@ -13,15 +13,15 @@ use Rattle.bfd_rules.specs.declared.config.Config.{Config}
 use Rattle.bfd_rules.specs.declared.outputs.Out.{Out}
 use Rattle.bfd_rules.specs.declared.variables.Vars.{Vars}
 use Rattle.bfd_rules.specs.EventFrame.{Course, course, begins, stamped}
-use Rattle.bfd_rules.specs.Sound as pair
+use Rattle.bfd_rules.specs.Sound as point
 use Rattle.bfd_rules.specs.declared.verdict.Verdict.{Verdict}
 use Rattle.bfd_rules.specs.declared.verdict.Verdict.TheVariants.{Accepted, Dropped as Discarded}
 use Rattle.bfd_p2p.specs.Port.{port_of}
-use Rattle.bfd_p2p.specs.Settle as pair_settle
-use Rattle.bfd_p2p.specs.Receive as pair_receive
-use Rattle.bfd_p2p.specs.Command as pair_command
-use Rattle.bfd_p2p.specs.Finish as pair_finish
-use Rattle.bfd_p2p.specs.Machine as pair_machine
+use Rattle.bfd_p2p.specs.Settle as point_settle
+use Rattle.bfd_p2p.specs.Receive as point_receive
+use Rattle.bfd_p2p.specs.Command as point_command
+use Rattle.bfd_p2p.specs.Finish as point_finish
+use Rattle.bfd_p2p.specs.Machine as point_machine
 use Rattle.bfd_sbfd.specs.Sound as initiator
 use Rattle.bfd_sbfd.specs.Settle as initiator_settle
 use Rattle.bfd_sbfd.specs.Receive as initiator_receive
@@ -37,7 +37,7 @@ use Rattle.bfd_mp.specs.Command as tree_command
 use Rattle.bfd_mp.specs.Machine as tree_machine
 use Rattle.bfd_echo.specs.Rules.{HasMoments}
 use Rattle.bfd_session.specs.declared.event.SessionConfig.{SessionConfig}
-use Rattle.bfd_session.specs.declared.event.SessionConfig.TheVariants.{Pair, Initiator, Head, Tail}
+use Rattle.bfd_session.specs.declared.event.SessionConfig.TheVariants.{PointToPoint, Initiator, Head, Tail}
 use Rattle.bfd_session.specs.declared.event.Event.{Event}
 use Rattle.bfd_session.specs.declared.event.Event.TheVariants.{Packet, Returned, Command, Show}
 use Rattle.bfd_session.specs.declared.event.Answer.{Answer}
@@ -48,14 +48,14 @@ use Rattle.bfd_session.specs.Showing.{shown}
 
 -- a configuration that a session may have
 abbrev pub IsFit : SessionConfig → Type 0
-IsFit (Pair c) = pair.IsConfig c
+IsFit (PointToPoint c) = point.IsConfig c
 IsFit (Initiator c) = initiator.IsInitiatorConfig c
 IsFit (Head c) = tree.IsHeadConfig c
 IsFit (Tail c) = tree.IsTailConfig c
 
 -- a point-to-point session between events: sound variables, and an Echo function if and only if one should run
-pub record IsPairSound (c : Config) (s : Running) : Type 0 where
-  pub vars : pair.IsSound c s.vars
+pub record IsPointSound (c : Config) (s : Running) : Type 0 where
+  pub vars : point.IsSound c s.vars
   pub echoes : IsSome s.echo ↔ IsTrue (should_echo c s.vars)
   pub moments : IfSome s.echo HasMoments
 
@@ -71,7 +71,7 @@ pub record IsPlainSound (IsVars : Vars → Type 0) (s : Running) : Type 0 where
 
 -- a session between events
 abbrev pub sound_by : SessionConfig → Running → Type 0
-sound_by (Pair c) s = IsPairSound c s
+sound_by (PointToPoint c) s = IsPointSound c s
 sound_by (Initiator c) s = IsPlainSound (initiator.IsInitiatorSound c) s
 sound_by (Head c) s = IsPlainSound tree.IsHeadSound s
 sound_by (Tail c) s = IsPlainSound (tree.IsTailSound c) s
@@ -81,7 +81,7 @@ IsSound s = sound_by s.config s
 
 -- the variables at the start
 abbrev pub made : SessionConfig → Vars
-made (Pair c) = pair_machine.made c
+made (PointToPoint c) = point_machine.made c
 made (Initiator c) = initiator_machine.made c
 made (Head c) = tree_machine.head_made c
 made (Tail c) = tree_machine.tail_made c
@@ -98,7 +98,7 @@ pub record IsFor (on : Port) (set : Bool) (arrival : Arrival) : Type 0 where
 
 -- a packet that a session may receive: one with M set is for a tail (RFC 8562), and a head hears nothing
 abbrev pub TakesPacket : SessionConfig → Arrival → Type 0
-TakesPacket (Pair c) arrival = IsFor (port_of c.role) false arrival
+TakesPacket (PointToPoint c) arrival = IsFor (port_of c.role) false arrival
 TakesPacket (Initiator c) arrival = IsFor AnswerPort false arrival
 TakesPacket (Head c) arrival = ⊥
 TakesPacket (Tail c) arrival = IsFor SinglePort true arrival
@@ -110,7 +110,7 @@ CanTake c event = Unit {0}
 
 -- the numbers of a packet that the session keeps fit their fields; those of every packet of bytes do
 abbrev pub FitsFields : SessionConfig → Control → Type 0
-FitsFields (Pair c) packet = pair_receive.IsSized packet
+FitsFields (PointToPoint c) packet = point_receive.IsSized packet
 FitsFields (Initiator c) packet = packet.min_rx < 2 ^ 32
 FitsFields (Head c) packet = Unit {0}
 FitsFields (Tail c) packet = tail_receive.IsSized packet
@@ -121,16 +121,16 @@ HasSize c event = Unit {0}
 
 -- what has come due by the limit is done: detection, sequence, the periodic packet, and the Echo function's failure or sending
 abbrev pub settled : SessionConfig → ℕ → ℕ → Flow → Flow
-settled (Pair c) limit eff f = settles_echo c limit eff (along f (pair_settle.settle c limit eff f.course))
+settled (PointToPoint c) limit eff f = settles_echo c limit eff (along f (point_settle.settle c limit eff f.course))
 settled (Initiator c) limit eff f = along f (initiator_settle.settle c limit eff f.course)
 settled (Head c) limit eff f = along f (head_settle.settle c limit eff f.course)
 settled (Tail c) limit eff f = along f (tail_settle.settle c limit f.course)
 
 -- the event's own rules
 abbrev pub acted : SessionConfig → ℕ → Event → Flow → Flow
-acted (Pair c) eff (Packet arrival) f = along f (pair_receive.received c eff arrival.ttl arrival.payload f.course)
-acted (Pair c) eff (Returned sequence) f = takes_back c eff sequence f
-acted (Pair c) eff (Command cmd) f = along f (pair_command.commanded c eff cmd f.course)
+acted (PointToPoint c) eff (Packet arrival) f = along f (point_receive.received c eff arrival.ttl arrival.payload f.course)
+acted (PointToPoint c) eff (Returned sequence) f = takes_back c eff sequence f
+acted (PointToPoint c) eff (Command cmd) f = along f (point_command.commanded c eff cmd f.course)
 acted (Initiator c) eff (Packet arrival) f = along f (initiator_receive.received c eff arrival.payload f.course)
 acted (Initiator c) eff (Command cmd) f = along f (initiator_command.commanded c cmd f.course)
 acted (Head c) eff (Command cmd) f = along f (tree_command.head_commanded c cmd f.course)
@@ -140,7 +140,7 @@ acted _ eff _ f = f
 
 -- the end of the event: the extra packet, the next due tick, and the Echo function starts or stops; none of these for a tail
 abbrev pub finished : SessionConfig → ℕ → Flow → Flow
-finished (Pair c) eff f = turns_echo c eff (along f (pair_finish.finish c eff f.course))
+finished (PointToPoint c) eff f = turns_echo c eff (along f (point_finish.finish c eff f.course))
 finished (Initiator c) eff f = along f (initiator_finish.finish c eff f.course)
 finished (Head c) eff f = along f (head_finish.finish c eff f.course)
 finished (Tail c) eff f = f
@@ -207,21 +207,21 @@ answer_to_return false = Dropped EchoStale
 
 -- the verdict on a packet, by the variables after settling; a head receives no packets
 abbrev pub verdict_by : SessionConfig → Arrival → Vars → Verdict
-verdict_by (Pair c) arrival v = pair_receive.verdict_on c arrival.ttl arrival.payload v
+verdict_by (PointToPoint c) arrival v = point_receive.verdict_on c arrival.ttl arrival.payload v
 verdict_by (Initiator c) arrival v = initiator_receive.verdict_on arrival.payload v
 verdict_by (Head c) arrival v = Accepted
 verdict_by (Tail c) arrival v = tail_receive.verdict_on arrival.payload v
 
 -- the first refusal of a command
 abbrev pub refused_by : SessionConfig → Vars → Cmd → Option Refusal
-refused_by (Pair c) v cmd = pair_command.refusal c v cmd
+refused_by (PointToPoint c) v cmd = point_command.refusal c v cmd
 refused_by (Initiator c) v cmd = initiator_command.refusal v cmd
 refused_by (Head c) v cmd = tree_command.head_refusal v cmd
 refused_by (Tail c) v cmd = tree_command.tail_refusal v cmd
 
 -- the echo packets of this number are awaited; none of a session without the Echo function
 abbrev pub awaits : SessionConfig → ℕ → Flow → Bool
-awaits (Pair c) sequence f = is_awaited sequence (echoing c f.course.vars f.echo)
+awaits (PointToPoint c) sequence f = is_awaited sequence (echoing c f.course.vars f.echo)
 awaits _ sequence f = false
 
 -- the answer that an event gets after settling

@@ -9,7 +9,7 @@ use bfd_sbfd::InitiatorConfig;
 #[derive(Drop)]
 pub enum SessionConfig {
     /// A point-to-point session (RFC 5881, RFC 5883).
-    Pair(Config),
+    PointToPoint(Config),
     /// A seamless initiator (RFC 7880).
     Initiator(InitiatorConfig),
     /// The head of a multipoint tree (RFC 8562).
@@ -76,7 +76,7 @@ impl SessionConfig {
         ensures { result ≡ discr_of self.now }
     {
         match self {
-            SessionConfig::Pair(config) => config.discr,
+            SessionConfig::PointToPoint(config) => config.discr,
             SessionConfig::Initiator(config) => config.discr,
             SessionConfig::Head(config) => config.discr,
             SessionConfig::Tail(config) => config.discr,
@@ -88,7 +88,7 @@ impl SessionConfig {
         ensures { result ≡ self.now }
     {
         match self {
-            SessionConfig::Pair(config) => SessionConfig::Pair(config.copy()),
+            SessionConfig::PointToPoint(config) => SessionConfig::PointToPoint(config.copy()),
             SessionConfig::Initiator(config) => SessionConfig::Initiator(*config),
             SessionConfig::Head(config) => SessionConfig::Head(*config),
             SessionConfig::Tail(config) => SessionConfig::Tail(*config),

@@ -21,7 +21,7 @@ mod event;
 mod head;
 mod initiator;
 mod law;
-mod pair;
+mod point;
 mod rows;
 mod session;
 mod showing;

@@ -15,7 +15,7 @@ pub fn row_of(config: &SessionConfig) -> Row
     ensures { result ≡ rows.row_of config.now }
 {
     let kind = match config {
-        SessionConfig::Pair(c) => match c.role {
+        SessionConfig::PointToPoint(c) => match c.role {
             Role::Single => RowKind::Single {
                 iface: c.iface,
                 local: c.local,

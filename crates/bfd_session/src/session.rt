@@ -8,7 +8,7 @@ ghost use Rattle.bfd_session.specs.Due as due;
 ghost use Rattle.bfd_session.specs.Step.{IsFit, IsSound, CanTake, HasSize, started, next, emits, reply, tick_next, tick_emits};
 
 use crate::answering::is_for;
-use crate::{Answer, Event, SessionConfig, head, initiator, pair, tail};
+use crate::{Answer, Event, SessionConfig, head, initiator, point, tail};
 use bfd_echo::Echo;
 use bfd_mp::{Head, Tail};
 use bfd_p2p::{P2p, control_port};
@@ -21,7 +21,7 @@ use std::marker::Model;
 /// sequence number that the next one begins with.
 #[derive(Drop)]
 enum Machine {
-    Pair(P2p, Option<Echo>, u32),
+    PointToPoint(P2p, Option<Echo>, u32),
     Initiator(Initiator),
     Head(Head),
     Tail(Tail),
@@ -54,8 +54,8 @@ impl Session {
         ensures sound { IsSound result }
     {
         match config {
-            SessionConfig::Pair(config) => Session {
-                machine: Machine::Pair(P2p::make(config), None, 0),
+            SessionConfig::PointToPoint(config) => Session {
+                machine: Machine::PointToPoint(P2p::make(config), None, 0),
             },
             SessionConfig::Initiator(config) => Session {
                 machine: Machine::Initiator(Initiator::make(config)),
@@ -74,7 +74,7 @@ impl Session {
         ensures { result ≡ discr_of self.now.config }
     {
         match &self.machine {
-            Machine::Pair(pair, _, _) => pair.config().discr,
+            Machine::PointToPoint(point, _, _) => point.config().discr,
             Machine::Initiator(initiator) => initiator.config().discr,
             Machine::Head(head) => head.config().discr,
             Machine::Tail(tail) => tail.config().discr,
@@ -88,7 +88,7 @@ impl Session {
         ensures sound { IsSound self.now }
     {
         match &self.machine {
-            Machine::Pair(pair, _, _) => pair.vars(),
+            Machine::PointToPoint(point, _, _) => point.vars(),
             Machine::Initiator(initiator) => initiator.vars(),
             Machine::Head(head) => head.vars(),
             Machine::Tail(tail) => tail.vars(),
@@ -101,7 +101,7 @@ impl Session {
         ensures { result ≡ self.now.echo }
     {
         match &self.machine {
-            Machine::Pair(_, echo, _) => *echo,
+            Machine::PointToPoint(_, echo, _) => *echo,
             _ => None,
         }
     }
@@ -111,7 +111,7 @@ impl Session {
         ensures { result ≡ self.now.echo_next }
     {
         match &self.machine {
-            Machine::Pair(_, _, next) => *next,
+            Machine::PointToPoint(_, _, next) => *next,
             _ => 0,
         }
     }
@@ -125,7 +125,11 @@ impl Session {
             return true;
         };
         match &self.machine {
-            Machine::Pair(pair, _, _) => is_for(control_port(pair.config().role), false, arrival),
+            Machine::PointToPoint(point, _, _) => is_for(
+                control_port(point.config().role),
+                false,
+                arrival,
+            ),
             Machine::Initiator(_) => is_for(Port::Answer, false, arrival),
             Machine::Head(_) => false,
             Machine::Tail(_) => is_for(Port::Single, true, arrival),
@@ -148,7 +152,9 @@ impl Session {
         ensures room { outs.new.room ≡ outs.old.room }
     {
         match &mut self.machine {
-            Machine::Pair(pair, echo, next) => pair::steps(pair, echo, next, eff, event, outs),
+            Machine::PointToPoint(point, echo, next) => point::steps(
+                point, echo, next, eff, event, outs,
+            ),
             Machine::Initiator(initiator) => initiator::steps(initiator, eff, event, outs),
             Machine::Head(head) => head::steps(head, eff, event, outs),
             Machine::Tail(tail) => tail::steps(tail, eff, event, outs),
@@ -173,7 +179,9 @@ impl Session {
         ensures room { outs.new.room ≡ outs.old.room }
     {
         match &mut self.machine {
-            Machine::Pair(pair, echo, next) => pair::ticks(pair, echo, next, limit, eff, outs),
+            Machine::PointToPoint(point, echo, next) => point::ticks(
+                point, echo, next, limit, eff, outs,
+            ),
             Machine::Initiator(initiator) => initiator::ticks(initiator, limit, eff, outs),
             Machine::Head(head) => head::ticks(head, limit, eff, outs),
             Machine::Tail(tail) => tail::ticks(tail, limit, eff, outs),
@@ -187,7 +195,7 @@ impl Session {
         ensures below { IfSome result (λ t. t < moment_bound) }
     {
         match &self.machine {
-            Machine::Pair(pair, echo, _) => pair::due_tick(pair, echo),
+            Machine::PointToPoint(point, echo, _) => point::due_tick(point, echo),
             Machine::Initiator(initiator) => initiator::due_tick(initiator),
             Machine::Head(head) => head::due_tick(head),
             Machine::Tail(tail) => tail::due_tick(tail),

@@ -8,11 +8,11 @@ use Rattle.bfd_shard.proofs.Common.{tick_next, tick_emits, NoneDue, get_or-appen
 use Rattle.bfd_rules.specs.declared.outputs.Out.{Out}
 use Rattle.bfd_packet.specs.declared.arrival.Addr.TheVariants.{V4}
 use Rattle.bfd_rules.specs.declared.config.Role.TheVariants.{Single}
-use Rattle.bfd_session.specs.declared.event.SessionConfig.TheVariants.{Pair}
+use Rattle.bfd_session.specs.declared.event.SessionConfig.TheVariants.{PointToPoint}
 
 -- a session for places past the end
 abbrev pub nobody : Running
-nobody = started (Pair (record {
+nobody = started (PointToPoint (record {
   discr = 0;
   role = Single;
   iface = 0;

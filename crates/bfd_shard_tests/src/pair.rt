@@ -1,6 +1,6 @@
 //! The handshake of two active sessions, packet by packet, and two configurations that are no peers.
 ghost use Rattle.std.specs.Prelude.{◌≡◌, ◌<◌, ◌≤◌};
-ghost use Rattle.bfd_session.specs.declared.event.SessionConfig.TheVariants.{Pair as PairOf};
+ghost use Rattle.bfd_session.specs.declared.event.SessionConfig.TheVariants.{PointToPoint};
 ghost use Rattle.bfd_session.specs.Step.{IsFit};
 
 use bfd_num::{Moment, Tick};
@@ -21,7 +21,7 @@ pub(crate) fn config(discr: u32, local: Addr, remote: Addr, interval: u32, seed:
     requires some { 0 < discr }
     requires least { 10000 ≤ interval }
     requires most { interval ≤ 60000000 }
-    ensures { IsFit (PairOf result) }
+    ensures { IsFit (PointToPoint result) }
 {
     Config {
         discr,

@@ -16,7 +16,7 @@ use std::sync::ledger::{Blank, Ledger};
 /// A shard of one session, whose journal accepts one entry.
 fn small_shard(alloc: Global) -> Result<ShardState<PlainTimers>, AllocError> {
     let mut configs = Vec::new(alloc);
-    configs.push(SessionConfig::Pair(config(1, FIRST, SECOND, 1_000_000, 0)))?;
+    configs.push(SessionConfig::PointToPoint(config(1, FIRST, SECOND, 1_000_000, 0)))?;
     ShardState::make(alloc, configs, 1)
 }
 

@@ -2,7 +2,7 @@
 ghost use Rattle.std.specs.Prelude.{◌≡◌, ◌<◌, ◌≤◌, ◌∷◌, [], true, None, IfOk, OnOk, length};
 ghost use Rattle.bfd_packet.specs.declared.arrival.Addr.TheVariants.{V4};
 ghost use Rattle.bfd_rules.specs.declared.config.Role.TheVariants.{Single};
-ghost use Rattle.bfd_session.specs.declared.event.SessionConfig.TheVariants.{Pair};
+ghost use Rattle.bfd_session.specs.declared.event.SessionConfig.TheVariants.{PointToPoint};
 ghost use Rattle.bfd_session.specs.Kinds.{configs_of};
 ghost use Rattle.bfd_session.specs.Rows.{AreFit};
 ghost use Rattle.bfd_session.specs.Step.{IsFit};
@@ -26,7 +26,7 @@ fn config(discr: u32) -> SessionConfig
     requires some { 0 < discr }
     requires iface { discr < 65536 }
     ensures fit { IsFit result }
-    ensures value { result ≡ Pair (record {
+    ensures value { result ≡ PointToPoint (record {
       discr = discr;
       role = Single;
       iface = discr;
@@ -41,7 +41,7 @@ fn config(discr: u32) -> SessionConfig
       keys = None;
     }) }
 {
-    SessionConfig::Pair(Config {
+    SessionConfig::PointToPoint(Config {
         discr,
         role: Role::Single,
         iface: discr,
@@ -63,7 +63,7 @@ fn two(alloc: Global, first: u32, second: u32) -> Result<Vec<SessionConfig>, All
     requires second { (0 < second) × (second < 65536) }
     ensures fit { IfOk result (λ configs. AreFit configs.items) }
     ensures value { IfOk result (λ configs. configs.items
-        ≡ Pair (record {
+        ≡ PointToPoint (record {
           discr = first;
           role = Single;
           iface = first;
@@ -77,7 +77,7 @@ fn two(alloc: Global, first: u32, second: u32) -> Result<Vec<SessionConfig>, All
           seed = 0;
           keys = None;
         })
-        ∷ Pair (record {
+        ∷ PointToPoint (record {
           discr = second;
           role = Single;
           iface = second;

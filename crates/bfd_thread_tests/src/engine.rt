@@ -32,7 +32,7 @@ fn config(discr: u32) -> SessionConfig
     ensures fit { IsFit result }
     ensures discr { discr_of result ≡ discr }
 {
-    SessionConfig::Pair(Config {
+    SessionConfig::PointToPoint(Config {
         discr,
         role: Role::Single,
         iface: discr,

@@ -11,7 +11,7 @@ use bfd_session::{Answer, SessionConfig};
 /// The kind of a session.
 #[derive(Clone, Copy, Debug, PartialEq, Eq)]
 pub enum Kind {
-    Pair,
+    PointToPoint,
     Initiator,
     Head,
     Tail,
@@ -61,7 +61,7 @@ fn session_kind(config: &SessionConfig) -> Kind
     ensures { result ≡ keeping.session_kind config.now }
 {
     match config {
-        SessionConfig::Pair(_) => Kind::Pair,
+        SessionConfig::PointToPoint(_) => Kind::PointToPoint,
         SessionConfig::Initiator(_) => Kind::Initiator,
         SessionConfig::Head(_) => Kind::Head,
         SessionConfig::Tail(_) => Kind::Tail,

@@ -32,7 +32,7 @@ fn advertised(session: &Session, kind: Kind) -> u32
 {
     let vars = session.vars();
     match kind {
-        Kind::Pair | Kind::Initiator => adv_tx(vars),
+        Kind::PointToPoint | Kind::Initiator => adv_tx(vars),
         Kind::Head => vars.tx,
         Kind::Tail => 0,
     }
@@ -45,7 +45,7 @@ fn waits(session: &Session, kind: Kind) -> u64
 {
     let vars = session.vars();
     match kind {
-        Kind::Pair => detection_time(vars),
+        Kind::PointToPoint => detection_time(vars),
         Kind::Initiator => initiator::wait(vars),
         Kind::Head => 0,
         Kind::Tail => tail::wait(vars),
@@ -53,14 +53,14 @@ fn waits(session: &Session, kind: Kind) -> u64
 }
 
 /// When it ends.
-#[tactic(auto, using(crate::proofs::Bounds::pair_moments, crate::proofs::Bounds::initiator_heard, crate::proofs::Bounds::tail_heard))]
+#[tactic(auto, using(crate::proofs::Bounds::point_moments, crate::proofs::Bounds::initiator_heard, crate::proofs::Bounds::tail_heard))]
 fn ends(session: &Session, kind: Kind) -> Option<u64>
     requires { kind ≡ session_kind session.now.config }
     ensures { result ≡ due.detects session.now }
 {
     let vars = session.vars();
     match kind {
-        Kind::Pair => deadline(vars),
+        Kind::PointToPoint => deadline(vars),
         Kind::Initiator => initiator::deadline(vars),
         Kind::Head => None,
         Kind::Tail => tail::deadline(vars),

@@ -1,6 +1,6 @@
 //! The two of a seed, and the events of its schedule.
 ghost use Rattle.std.specs.Prelude.{◌≡◌, ◌≤◌, [], IfOk, length};
-ghost use Rattle.bfd_session.specs.declared.event.SessionConfig.TheVariants.{Pair as PairOf};
+ghost use Rattle.bfd_session.specs.declared.event.SessionConfig.TheVariants.{PointToPoint};
 ghost use Rattle.bfd_pair.specs.Run.{pair_run};
 ghost use Rattle.bfd_pair.specs.Schedule as schedule;
 
@@ -39,7 +39,7 @@ fn side(discr: u32, local: Addr, remote: Addr, seed: u32) -> Config
 /// The two of a seed at the start. Fails only when out of memory.
 pub(crate) fn peers(alloc: Global, seed: u32) -> Result<Pair, AllocError>
     ensures { IfOk result (λ pair. pair
-        ≡ record { left = PairOf (schedule.left seed); right = PairOf (schedule.right seed); past = [] }) }
+        ≡ record { left = PointToPoint (schedule.left seed); right = PointToPoint (schedule.right seed); past = [] }) }
 {
     match Pair::make(
         alloc,

@@ -9,7 +9,7 @@ ghost use Rattle.bfd_script.specs.declared.fields.fault.LineFault.TheVariants.{F
 
 use crate::fields::{LineFault, ReadFault, address, number, payload_read};
 use crate::line::arrivals::port_named;
-use crate::line::pairs::read_pair;
+use crate::line::points::read_point;
 use crate::line::seamless::{read_initiator, read_reflector};
 use crate::line::secrets::{read_chain, read_key};
 use crate::line::trees::{read_head, read_tail};
@@ -326,7 +326,7 @@ pub fn read_values(
 {
     match word {
         Word::Bfd => Ok(versioned(values)?),
-        Word::P2p => Ok(Entry::Row(read_pair(values)?)),
+        Word::P2p => Ok(Entry::Row(read_point(values)?)),
         Word::Sbfd => Ok(Entry::Row(read_initiator(values)?)),
         Word::Reflector => Ok(Entry::Reflect(read_reflector(values)?)),
         Word::Head => Ok(Entry::Row(read_head(values)?)),

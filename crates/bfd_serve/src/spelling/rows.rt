@@ -12,8 +12,8 @@ use std::alloc::{AllocError, Global};
 use std::fmt::Write;
 
 /// The row of a point-to-point session.
-fn pair_text(alloc: Global, config: &Config) -> Result<String, AllocError>
-    ensures { IfOk result (λ text. string_bytes text ≡ line (row_fields (SessionConfig.Pair config.now))) }
+fn point_text(alloc: Global, config: &Config) -> Result<String, AllocError>
+    ensures { IfOk result (λ text. string_bytes text ≡ line (row_fields (SessionConfig.PointToPoint config.now))) }
 {
     let discr = config.discr;
     let role = role_text(config.role);
@@ -77,7 +77,7 @@ pub(crate) fn row_text(alloc: Global, config: &SessionConfig) -> Result<String, 
     ensures { IfOk result (λ text. string_bytes text ≡ line (row_fields config.now)) }
 {
     match config {
-        SessionConfig::Pair(config) => pair_text(alloc, config),
+        SessionConfig::PointToPoint(config) => point_text(alloc, config),
         SessionConfig::Initiator(config) => initiator_text(alloc, config),
         SessionConfig::Head(config) => head_text(alloc, config),
         SessionConfig::Tail(config) => tail_text(alloc, config),

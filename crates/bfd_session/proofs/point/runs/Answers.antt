@@ -1,6 +1,6 @@
 -- If a packet with F reports the state, nothing more is reported; and a packet with nothing new leaves a sound session.
 use Rattle.bfd_session.proofs.Common.{◌≡◌, ◌≤◌, ◌+◌, ℕ, Bool, true, false, refl, arith}
-use Rattle.bfd_session.proofs.pair.runs.Goals as goal
+use Rattle.bfd_session.proofs.point.runs.Goals as goal
 
 within : (answered : Bool) {old settled acted : ℕ} (finished : ℕ) → old ≤ settled + 3 → (answered ≡ false → settled ≤ acted + 1)
     → settled ≤ acted + 2 → (answered ≡ true → finished ≡ acted) → acted ≤ finished + 1 → old ≤ finished + 5

@@ -1,7 +1,7 @@
 -- The end of an event leaves what the Echo function runs by.
 use Rattle.bfd_session.proofs.Common.{course, IsEchoOver}
 use Rattle.bfd_session.proofs.EchoKept.{finish_keeps_echo}
-use Rattle.bfd_session.proofs.pair.finishes.Goals as goal
+use Rattle.bfd_session.proofs.point.finishes.Goals as goal
 
 pub returns-clause-echo_over : goal.returns-clause-echo_over
 returns-clause-echo_over c = λ limit reached over.

@@ -7,14 +7,14 @@ ghost use Rattle.bfd_rules.specs.EventFrame.{course, begins, announces};
 ghost use Rattle.bfd_rules.specs.Sound.{IsSound as IsVarsSound};
 ghost use Rattle.bfd_p2p.specs.Over.{IsBegun, IsOver, IsSettled};
 ghost use Rattle.bfd_echo.specs.Rules.{HasMoments};
-ghost use Rattle.bfd_session.specs.declared.event.SessionConfig.TheVariants.{Pair};
+ghost use Rattle.bfd_session.specs.declared.event.SessionConfig.TheVariants.{PointToPoint};
 ghost use Rattle.bfd_session.specs.declared.event.Answer.TheVariants.{Handled};
 ghost use Rattle.bfd_session.specs.Due as due;
 ghost use Rattle.bfd_session.specs.Echoing.{IsEchoOver};
-ghost use Rattle.bfd_session.specs.Inside.{pair_of};
+ghost use Rattle.bfd_session.specs.Inside.{point_of};
 ghost use Rattle.bfd_session.specs.Kinds.{flow};
 ghost use Rattle.bfd_session.specs.Step as session;
-ghost use Rattle.bfd_session.specs.Step.{CanTake, HasSize, IsPairSound};
+ghost use Rattle.bfd_session.specs.Step.{CanTake, HasSize, IsPointSound};
 
 use crate::answering::{to_command, to_packet, to_return};
 use crate::echoing::{echo_due, settles_echo, takes_back, turns_echo};
@@ -39,7 +39,7 @@ fn settles(
     requires room { 3 ≤ outs.old.spare }
     ensures config { p.new.config ≡ p.old.config }
     ensures flow { (next : ℕ) → flow (course p.new.vars mark.new outs.new.items) echo.new next
-        ≡ session.settled (Pair p.old.config)
+        ≡ session.settled (PointToPoint p.old.config)
         limit eff (flow (course p.old.vars mark.old outs.old.items) echo.old next) }
     ensures settled { IsBegun p.old.config limit eff mark.old p.old.vars
         → IsSettled p.old.config.active limit eff mark.new p.new.vars }
@@ -62,17 +62,17 @@ fn acts(
     outs: &mut Outs,
 ) -> Answer
     requires eff { eff < moment_bound }
-    requires takes { CanTake (Pair p.old.config) event.now }
+    requires takes { CanTake (PointToPoint p.old.config) event.now }
     requires moments { IfSome echo.old HasMoments }
     requires room { 2 ≤ outs.old.spare }
     ensures config { p.new.config ≡ p.old.config }
     ensures flow { (next : ℕ) → flow (course p.new.vars mark.new outs.new.items) echo.new next
-        ≡ session.acted (Pair p.old.config)
+        ≡ session.acted (PointToPoint p.old.config)
         eff event.now (flow (course p.old.vars mark.old outs.old.items) echo.old next) }
     ensures answer { (next : ℕ) → result
-        ≡ session.answer_of (Pair p.old.config)
+        ≡ session.answer_of (PointToPoint p.old.config)
         event.now (flow (course p.old.vars mark.old outs.old.items) echo.old next) }
-    ensures size { HasSize (Pair p.old.config) event.now }
+    ensures size { HasSize (PointToPoint p.old.config) event.now }
     ensures moments { IfSome echo.new HasMoments }
     ensures unanswered { mark.new.answered ≡ false → outs.old.spare ≤ outs.new.spare + 1 }
     ensures spare { outs.old.spare ≤ outs.new.spare + 2 }
@@ -105,22 +105,22 @@ fn finishes(
     requires room { mark.answered ≡ false → 1 ≤ outs.old.spare }
     ensures config { p.new.config ≡ p.old.config }
     ensures vars { p.new.vars
-        ≡ (session.finished (Pair p.old.config)
+        ≡ (session.finished (PointToPoint p.old.config)
         eff (flow (course p.old.vars mark outs.old.items) echo.old next.old)).course.vars }
     ensures outs { outs.new.items
-        ≡ (session.finished (Pair p.old.config)
+        ≡ (session.finished (PointToPoint p.old.config)
         eff (flow (course p.old.vars mark outs.old.items) echo.old next.old)).course.outs }
     ensures echo { echo.new
-        ≡ (session.finished (Pair p.old.config)
+        ≡ (session.finished (PointToPoint p.old.config)
         eff (flow (course p.old.vars mark outs.old.items) echo.old next.old)).echo }
     ensures next { next.new
-        ≡ (session.finished (Pair p.old.config)
+        ≡ (session.finished (PointToPoint p.old.config)
         eff (flow (course p.old.vars mark outs.old.items) echo.old next.old)).echo_next }
     ensures over { (limit : ℕ) → limit ≤ eff → IsSettled p.old.config.active limit eff mark p.old.vars
         → IsOver limit p.new.vars }
     ensures echo_over { (limit : ℕ) → limit ≤ eff → IsEchoOver limit p.old.config p.old.vars echo.old
         → IsEchoOver limit p.new.config p.new.vars echo.new }
-    ensures sound { IsPairSound p.new.config (pair_of p.new echo.new next.new) }
+    ensures sound { IsPointSound p.new.config (point_of p.new echo.new next.new) }
     ensures answered { mark.answered ≡ true → outs.new.spare ≡ outs.old.spare }
     ensures spare { outs.old.spare ≤ outs.new.spare + 1 }
     ensures room { outs.new.room ≡ outs.old.room }
@@ -134,16 +134,16 @@ fn finishes(
 #[tactic(auto, using(crate::proofs::Repeated::again_step, crate::proofs::Repeated::again_answer))]
 fn hears_again(p: &mut P2p, echo: &Option<Echo>, eff: u64, event: &Event) -> bool
     requires eff { eff < moment_bound }
-    requires takes { CanTake (Pair p.old.config) event.now }
+    requires takes { CanTake (PointToPoint p.old.config) event.now }
     ensures config { p.new.config ≡ p.old.config }
     ensures rests { result ≡ false → p.new ≡ p.old }
-    ensures size { result ≡ true → HasSize (Pair p.old.config) event.now }
-    ensures flow { result ≡ true → (next : ℕ) (os : List Out) → session.step (Pair p.old.config) eff event.now
-        (session.begun (Some eff) (pair_of p.old echo.now next) os)
+    ensures size { result ≡ true → HasSize (PointToPoint p.old.config) event.now }
+    ensures flow { result ≡ true → (next : ℕ) (os : List Out) → session.step (PointToPoint p.old.config) eff event.now
+        (session.begun (Some eff) (point_of p.old echo.now next) os)
         ≡ flow (course p.new.vars (begins p.new.vars) os) echo.now next }
     ensures answer { result ≡ true → (next : ℕ) (os : List Out)
-        → session.reply_from eff event.now (pair_of p.old echo.now next) os ≡ Handled }
-    ensures sound { result ≡ true → (next : ℕ) → IsPairSound p.new.config (pair_of p.new echo.now next) }
+        → session.reply_from eff event.now (point_of p.old echo.now next) os ≡ Handled }
+    ensures sound { result ≡ true → (next : ℕ) → IsPointSound p.new.config (point_of p.new echo.now next) }
 {
     match (event, echo) {
         (Event::Packet(arrival), None) => {
@@ -166,20 +166,20 @@ fn runs(
     outs: &mut Outs,
 ) -> Answer
     requires eff { eff < moment_bound }
-    requires takes { CanTake (Pair p.old.config) event.now }
+    requires takes { CanTake (PointToPoint p.old.config) event.now }
     requires moments { IfSome echo.old HasMoments }
     requires room { 5 ≤ outs.old.spare }
     ensures config { p.new.config ≡ p.old.config }
-    ensures size { HasSize (Pair p.old.config) event.now }
-    ensures vars { p.new.vars ≡ (session.step_from eff event.now (pair_of p.old echo.old next.old)
+    ensures size { HasSize (PointToPoint p.old.config) event.now }
+    ensures vars { p.new.vars ≡ (session.step_from eff event.now (point_of p.old echo.old next.old)
         outs.old.items).course.vars }
-    ensures outs { outs.new.items ≡ (session.step_from eff event.now (pair_of p.old echo.old next.old)
+    ensures outs { outs.new.items ≡ (session.step_from eff event.now (point_of p.old echo.old next.old)
         outs.old.items).course.outs }
-    ensures echo { echo.new ≡ (session.step_from eff event.now (pair_of p.old echo.old next.old) outs.old.items).echo }
-    ensures next { next.new ≡ (session.step_from eff event.now (pair_of p.old echo.old next.old)
+    ensures echo { echo.new ≡ (session.step_from eff event.now (point_of p.old echo.old next.old) outs.old.items).echo }
+    ensures next { next.new ≡ (session.step_from eff event.now (point_of p.old echo.old next.old)
         outs.old.items).echo_next }
-    ensures answer { result ≡ session.reply_from eff event.now (pair_of p.old echo.old next.old) outs.old.items }
-    ensures sound { IsPairSound p.new.config (pair_of p.new echo.new next.new) }
+    ensures answer { result ≡ session.reply_from eff event.now (point_of p.old echo.old next.old) outs.old.items }
+    ensures sound { IsPointSound p.new.config (point_of p.new echo.new next.new) }
     ensures spare { outs.old.spare ≤ outs.new.spare + 5 }
     ensures room { outs.new.room ≡ outs.old.room }
 {
@@ -203,14 +203,14 @@ pub fn steps(
     outs: &mut Outs,
 ) -> Answer
     requires eff { eff < moment_bound }
-    requires takes { CanTake (Pair p.old.config) event.now }
+    requires takes { CanTake (PointToPoint p.old.config) event.now }
     requires moments { IfSome echo.old HasMoments }
     requires room { 5 ≤ outs.old.spare }
-    ensures session { pair_of p.new echo.new next.new ≡ session.next eff event.now (pair_of p.old echo.old next.old) }
-    ensures size { HasSize (Pair p.old.config) event.now }
-    ensures outs { outs.new.items ≡ outs.old.items ++ session.emits eff event.now (pair_of p.old echo.old next.old) }
-    ensures answer { result ≡ session.reply eff event.now (pair_of p.old echo.old next.old) }
-    ensures sound { IsPairSound p.new.config (pair_of p.new echo.new next.new) }
+    ensures session { point_of p.new echo.new next.new ≡ session.next eff event.now (point_of p.old echo.old next.old) }
+    ensures size { HasSize (PointToPoint p.old.config) event.now }
+    ensures outs { outs.new.items ≡ outs.old.items ++ session.emits eff event.now (point_of p.old echo.old next.old) }
+    ensures answer { result ≡ session.reply eff event.now (point_of p.old echo.old next.old) }
+    ensures sound { IsPointSound p.new.config (point_of p.new echo.new next.new) }
     ensures spare { outs.old.spare ≤ outs.new.spare + 5 }
     ensures room { outs.new.room ≡ outs.old.room }
 {
@@ -226,12 +226,12 @@ fn beats(p: &mut P2p, echo: &Option<Echo>, limit: u64, eff: u64, outs: &mut Outs
     ensures config { p.new.config ≡ p.old.config }
     ensures rests { result ≡ false → p.new ≡ p.old }
     ensures rests_outs { result ≡ false → outs.new ≡ outs.old }
-    ensures flow { result ≡ true → (next : ℕ) → session.tick (Pair p.old.config) limit eff
-        (session.begun None (pair_of p.old echo.now next) outs.old.items)
+    ensures flow { result ≡ true → (next : ℕ) → session.tick (PointToPoint p.old.config) limit eff
+        (session.begun None (point_of p.old echo.now next) outs.old.items)
         ≡ flow (course p.new.vars (announces p.old.vars (begins p.old.vars)) outs.new.items) echo.now next }
     ensures over { result ≡ true → limit ≤ eff → IsOver limit p.new.vars }
     ensures echo_over { result ≡ true → IsEchoOver limit p.new.config p.new.vars echo.now }
-    ensures sound { result ≡ true → (next : ℕ) → IsPairSound p.new.config (pair_of p.new echo.now next) }
+    ensures sound { result ≡ true → (next : ℕ) → IsPointSound p.new.config (point_of p.new echo.now next) }
     ensures spare { outs.old.spare ≤ outs.new.spare + 1 }
     ensures room { outs.new.room ≡ outs.old.room }
 {
@@ -251,19 +251,19 @@ fn passes(
     eff: u64,
     outs: &mut Outs,
 )
-    requires sound { IsPairSound p.old.config (pair_of p.old echo.old next.old) }
+    requires sound { IsPointSound p.old.config (point_of p.old echo.old next.old) }
     requires eff { eff < moment_bound }
     requires room { 4 ≤ outs.old.spare }
     ensures config { p.new.config ≡ p.old.config }
-    ensures vars { p.new.vars ≡ (session.tick_from limit eff (pair_of p.old echo.old next.old)
+    ensures vars { p.new.vars ≡ (session.tick_from limit eff (point_of p.old echo.old next.old)
         outs.old.items).course.vars }
-    ensures outs { outs.new.items ≡ (session.tick_from limit eff (pair_of p.old echo.old next.old)
+    ensures outs { outs.new.items ≡ (session.tick_from limit eff (point_of p.old echo.old next.old)
         outs.old.items).course.outs }
-    ensures echo { echo.new ≡ (session.tick_from limit eff (pair_of p.old echo.old next.old) outs.old.items).echo }
-    ensures next { next.new ≡ (session.tick_from limit eff (pair_of p.old echo.old next.old) outs.old.items).echo_next }
+    ensures echo { echo.new ≡ (session.tick_from limit eff (point_of p.old echo.old next.old) outs.old.items).echo }
+    ensures next { next.new ≡ (session.tick_from limit eff (point_of p.old echo.old next.old) outs.old.items).echo_next }
     ensures over { limit ≤ eff → IsOver limit p.new.vars }
     ensures echo_over { limit ≤ eff → IsEchoOver limit p.new.config p.new.vars echo.new }
-    ensures sound { IsPairSound p.new.config (pair_of p.new echo.new next.new) }
+    ensures sound { IsPointSound p.new.config (point_of p.new echo.new next.new) }
     ensures spare { outs.old.spare ≤ outs.new.spare + 4 }
     ensures room { outs.new.room ≡ outs.old.room }
 {
@@ -284,14 +284,14 @@ pub fn ticks(
     eff: u64,
     outs: &mut Outs,
 )
-    requires sound { IsPairSound p.old.config (pair_of p.old echo.old next.old) }
+    requires sound { IsPointSound p.old.config (point_of p.old echo.old next.old) }
     requires eff { eff < moment_bound }
     requires room { 4 ≤ outs.old.spare }
-    ensures session { pair_of p.new echo.new next.new ≡ session.tick_next limit eff (pair_of p.old echo.old next.old) }
-    ensures outs { outs.new.items ≡ outs.old.items ++ session.tick_emits limit eff (pair_of p.old echo.old next.old) }
+    ensures session { point_of p.new echo.new next.new ≡ session.tick_next limit eff (point_of p.old echo.old next.old) }
+    ensures outs { outs.new.items ≡ outs.old.items ++ session.tick_emits limit eff (point_of p.old echo.old next.old) }
     ensures over { (t : ℕ) → limit ≡ 1000 * t → limit ≤ eff
-        → has_come t (due.due (pair_of p.new echo.new next.new)) ≡ false }
-    ensures sound { IsPairSound p.new.config (pair_of p.new echo.new next.new) }
+        → has_come t (due.due (point_of p.new echo.new next.new)) ≡ false }
+    ensures sound { IsPointSound p.new.config (point_of p.new echo.new next.new) }
     ensures spare { outs.old.spare ≤ outs.new.spare + 4 }
     ensures room { outs.new.room ≡ outs.old.room }
 {
@@ -301,7 +301,7 @@ pub fn ticks(
 /// The least due tick.
 pub fn due_tick(p: &P2p, echo: &Option<Echo>) -> Option<u64>
     requires moments { IfSome echo.now HasMoments }
-    ensures value { (next : ℕ) → result ≡ due.due (pair_of p.now echo.now next) }
+    ensures value { (next : ℕ) → result ≡ due.due (point_of p.now echo.now next) }
     ensures below { IfSome result (λ t. t < moment_bound) }
 {
     let v = p.vars();

@@ -2,7 +2,7 @@
 ghost use Rattle.std.specs.Prelude.{◌≡◌, IfOk, IsTrue, map};
 ghost use Rattle.bfd_rules.specs.Sound.{is_echo_interval};
 ghost use Rattle.bfd_session.specs.Step.{IsFit};
-ghost use Rattle.bfd_script.specs.Pairs.{AreEnds, IsTiming, active_of, config_by, echo_of, ends_of, pair_fields, p2p_row, pair_with, role_of, timing_fields, timing_of};
+ghost use Rattle.bfd_script.specs.Points.{AreEnds, IsTiming, active_of, config_by, echo_of, ends_of, point_fields, p2p_row, point_with, role_of, timing_fields, timing_of};
 ghost use Rattle.bfd_script.specs.Ranges.{IsRow};
 
 use crate::fields::{LineFault, address, number};
@@ -79,7 +79,7 @@ fn echo(role: Role, field: &[u8]) -> Result<u32, LineFault>
 }
 
 /// The first five values.
-#[tactic(auto, unfolding(crate::specs::Pairs::ends_of))]
+#[tactic(auto, unfolding(crate::specs::Points::ends_of))]
 fn read_ends(
     discr: &[u8],
     role: &[u8],
@@ -105,7 +105,7 @@ fn read_ends(
 }
 
 /// The last six values.
-#[tactic(auto, unfolding(crate::specs::Pairs::timing_of))]
+#[tactic(auto, unfolding(crate::specs::Points::timing_of))]
 fn timed(
     role: Role,
     mode: &[u8],
@@ -149,7 +149,7 @@ fn read_timing(role: Role, values: &[&[u8]]) -> Result<Timing, LineFault>
 fn config(ends: Ends, timing: Timing) -> SessionConfig
     ensures { result ≡ config_by ends timing }
 {
-    SessionConfig::Pair(Config {
+    SessionConfig::PointToPoint(Config {
         discr: ends.discr,
         role: ends.role,
         iface: ends.iface,
@@ -168,7 +168,7 @@ fn config(ends: Ends, timing: Timing) -> SessionConfig
 /// The session of the first five values and the others.
 fn pair(ends: Ends, rest: &[&[u8]]) -> Result<SessionConfig, LineFault>
     requires { AreEnds ends }
-    ensures value { result ≡ pair_with ends (map (λ value. value.now) rest.now) }
+    ensures value { result ≡ point_with ends (map (λ value. value.now) rest.now) }
     ensures sound { IfOk result (λ c. IsFit c × IsRow c) }
 {
     let timing = read_timing(ends.role, rest)?;
@@ -176,8 +176,8 @@ fn pair(ends: Ends, rest: &[&[u8]]) -> Result<SessionConfig, LineFault>
 }
 
 /// The session of these values.
-fn pair_fields(values: &[&[u8]]) -> Result<SessionConfig, LineFault>
-    ensures value { result ≡ pair_fields (map (λ value. value.now) values.now) }
+fn point_fields(values: &[&[u8]]) -> Result<SessionConfig, LineFault>
+    ensures value { result ≡ point_fields (map (λ value. value.now) values.now) }
     ensures sound { IfOk result (λ c. IsFit c × IsRow c) }
 {
     match values {
@@ -190,12 +190,12 @@ fn pair_fields(values: &[&[u8]]) -> Result<SessionConfig, LineFault>
 }
 
 /// The session of a `p2p` line.
-pub(crate) fn read_pair(values: &[&[u8]]) -> Result<SessionConfig, LineFault>
+pub(crate) fn read_point(values: &[&[u8]]) -> Result<SessionConfig, LineFault>
     ensures value { result ≡ p2p_row (map (λ value. value.now) values.now) }
     ensures sound { IfOk result (λ c. IsFit c × IsRow c) }
 {
     if values.len() != PAIR_VALUES {
         return Err(LineFault::FieldCount);
     }
-    pair_fields(values)
+    point_fields(values)
 }

@@ -6,11 +6,11 @@ use Rattle.bfd_rules.specs.Sound.{is_echo_interval}
 use Rattle.bfd_rules.specs.declared.config.Role.{Role}
 use Rattle.bfd_rules.specs.declared.config.Role.TheVariants.{Single, Multi}
 use Rattle.bfd_session.specs.declared.event.SessionConfig.{SessionConfig}
-use Rattle.bfd_session.specs.declared.event.SessionConfig.TheVariants.{Pair}
+use Rattle.bfd_session.specs.declared.event.SessionConfig.TheVariants.{PointToPoint}
 use Rattle.bfd_script.specs.declared.fields.fault.LineFault.{LineFault}
 use Rattle.bfd_script.specs.declared.fields.fault.LineFault.TheVariants.{UnknownWord, FieldCount, OutOfRange}
-use Rattle.bfd_script.specs.declared.line.pairs.Ends.{Ends}
-use Rattle.bfd_script.specs.declared.line.pairs.Timing.{Timing}
+use Rattle.bfd_script.specs.declared.line.points.Ends.{Ends}
+use Rattle.bfd_script.specs.declared.line.points.Timing.{Timing}
 use Rattle.bfd_script.specs.Fields.{number_in}
 use Rattle.bfd_script.specs.Gives.{◌>>=◌}
 use Rattle.bfd_script.specs.Values.{IsAddress, address_of}
@@ -61,7 +61,7 @@ timing_fields role values = Err FieldCount
 
 -- the session of both parts
 abbrev pub config_by : Ends → Timing → SessionConfig
-config_by ends timing = Pair (record {
+config_by ends timing = PointToPoint (record {
   discr = ends.discr;
   role = ends.role;
   iface = ends.iface;
@@ -77,17 +77,17 @@ config_by ends timing = Pair (record {
 })
 
 -- the session of the first five values and the others
-abbrev pub pair_with : Ends → List (List ℕ) → Result SessionConfig LineFault
-pair_with ends rest = timing_fields ends.role rest >>= λ timing. Ok (config_by ends timing)
+abbrev pub point_with : Ends → List (List ℕ) → Result SessionConfig LineFault
+point_with ends rest = timing_fields ends.role rest >>= λ timing. Ok (config_by ends timing)
 
 -- the session of the values
-abbrev pub pair_fields : List (List ℕ) → Result SessionConfig LineFault
-pair_fields (discr ∷ role ∷ iface ∷ local ∷ remote ∷ rest) = ends_of discr role iface local remote >>= λ ends. pair_with ends rest
-pair_fields values = Err FieldCount
+abbrev pub point_fields : List (List ℕ) → Result SessionConfig LineFault
+point_fields (discr ∷ role ∷ iface ∷ local ∷ remote ∷ rest) = ends_of discr role iface local remote >>= λ ends. point_with ends rest
+point_fields values = Err FieldCount
 
 -- the session of a `p2p` line
 abbrev pub p2p_row : List (List ℕ) → Result SessionConfig LineFault
-p2p_row values = if length values == 11 then pair_fields values else Err FieldCount
+p2p_row values = if length values == 11 then point_fields values else Err FieldCount
 
 -- the first five values are in their ranges
 pub record AreEnds (ends : Ends) : Type 0 where
