@@ -17,7 +17,7 @@ use Rattle.bfd_session.specs.declared.event.SessionConfig.TheVariants.{PointToPo
 use Rattle.bfd_session.specs.Step.{IsFit}
 use Rattle.bfd_script.specs.declared.line.entries.Entry.TheVariants as entries
 use Rattle.bfd_script.specs.declared.line.words.Place.TheVariants as places
-use Rattle.bfd_script.specs.Pairs.{active_of, echo_of, ends_of, p2p_row, role_of, timing_of}
+use Rattle.bfd_script.specs.Points.{active_of, echo_of, ends_of, p2p_row, role_of, timing_of}
 use Rattle.bfd_script.specs.Seamless.{initiator_from, reflecting_of, up_of}
 use Rattle.bfd_script.specs.Trees.{listener_of, sender_of}
 use Rattle.bfd_serve.proofs.Numerals.{number_again, number_field, number_short}
