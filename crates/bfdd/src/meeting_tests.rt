@@ -65,7 +65,7 @@ struct MeetingTicker<'a> {
 }
 
 impl Ticker for MeetingTicker<'_> {
-    ghost reported = { λ t. observed_of t.inner };
+    ghost observed = { λ t. observed_of t.inner };
 
     fn next(&mut self) -> Next {
         self.meeting.second.store(1, Ordering::SeqCst);
