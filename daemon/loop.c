@@ -49,9 +49,13 @@ pid_t loop_fork(void) {
     return child;
 }
 
-/* Sets the timer for this moment: it has no event before, and then one until it is set again. (A time of 0 would stop it.) */
+/* Sets the timer for this moment: it has no event before, and then one until it is set again. (A time of 0 would stop it.) One that is
+ * set for it already, and is still to come, stays. */
 static void set_timer(uint64_t moment) {
+    static uint64_t set_for;
     uint64_t now = clock_now(), left = moment > now ? moment - now : 1;
+    if (moment == set_for && moment > now) return;
+    set_for = moment;
     struct itimerspec time = {.it_value = {(time_t)(left / 1000000), (long)(left % 1000000) * 1000}};
     timerfd_settime(timer, 0, &time, NULL);
 }
