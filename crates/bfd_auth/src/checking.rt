@@ -1,10 +1,12 @@
 //! The tests on a packet's authentication section.
 
-ghost use Rattle.std.specs.Prelude.{◌≡◌, ◌+◌, ◌-◌, ◌*◌, ◌^◌, ◌<◌, ◌≤◌, length, slice_index, slice_range, IsTrue, IfNone, IfSome, Some, find, false};
+ghost use Rattle.std.specs.Prelude.{◌≡◌, ◌+◌, ◌-◌, ◌*◌, ◌^◌, ◌<◌, ◌≤◌, length, slice_index, slice_range, IsTrue, IfNone, IfSome, Some};
+ghost use Rattle.std.specs.Prelude.{find, false};
 ghost use Rattle.std.specs.Option.{option_copied};
 ghost use Rattle.bfd_packet.specs.KeyChain.{fits_kind, is_password};
 ghost use Rattle.bfd_auth.specs.Digests.{digest_of, is_meticulous, section_length, uses_sha1};
-ghost use Rattle.bfd_auth.specs.Verdict.{has_section_length, accepted_seq, in_window, is_genuine, may_hear, packet_key, right_digest, section_fails, section_tests, sequence_of, verdict, window};
+ghost use Rattle.bfd_auth.specs.Verdict.{has_section_length, accepted_seq, in_window, is_genuine, may_hear, packet_key, right_digest};
+ghost use Rattle.bfd_auth.specs.Verdict.{section_fails, section_tests, sequence_of, verdict, window};
 
 use crate::digests::{digest, has_to_rise, length_of_section};
 use bfd_packet::{AuthType, Key, Keys, SeqState, Test};

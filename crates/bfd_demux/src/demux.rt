@@ -1,6 +1,7 @@
 //! The table: rows behind two sorted indices.
 
-ghost use Rattle.std.specs.Prelude.{[], false, length, OnOk, ◌≡◌, ◌≢◌, ◌+◌, ◌<◌, ◌==◌, ◌≤◌, ◌&&◌, ◌||◌, if◌then◌else◌, is_ok, position, slice_index_or, true, not, None, Some, is_some, IfSome, IfOk, OnErr, MatchResult, ◌⊎◌};
+ghost use Rattle.std.specs.Prelude.{[], false, length, OnOk, ◌≡◌, ◌≢◌, ◌+◌, ◌<◌, ◌==◌, ◌≤◌, ◌&&◌, ◌||◌, if◌then◌else◌, is_ok, position};
+ghost use Rattle.std.specs.Prelude.{slice_index_or, true, not, None, Some, is_some, IfSome, IfOk, OnErr, MatchResult, ◌⊎◌};
 ghost use Rattle.std.specs.List.{insert, list_any, remove};
 ghost use Rattle.std.specs.Option.{option_map};
 ghost use Rattle.std.specs.Result.{result_err};
@@ -9,8 +10,11 @@ ghost use Rattle.bfd_packet.specs.HeaderTests.{takes_multipoint_of};
 ghost use Rattle.bfd_packet.specs.States.{is_init_or_up};
 ghost use Rattle.bfd_demux.specs.Rows.{add_fault, build_fault, early_fault, fault_kind, has_addresses, same_selector};
 ghost use Rattle.bfd_demux.specs.declared.row.Row.{Row};
-ghost use Rattle.bfd_demux.specs.Selection.{fields_on, first_header_failing, first_table_failing, row_has_discr, row_has_selector, is_by_addresses, is_echo_form, knows, reflector_index, selector_on, session_index, target_of, the_one};
-ghost use Rattle.bfd_demux.specs.Parts.{echo_target, first_echo_failing, first_past_header, first_session_failing, index_on, names_session, paired, target_named};
+ghost use Rattle.bfd_demux.specs.Selection.{fields_on, first_header_failing, first_table_failing, row_has_discr, row_has_selector};
+ghost use Rattle.bfd_demux.specs.Selection.{is_by_addresses, is_echo_form, knows, reflector_index, selector_on, session_index, target_of};
+ghost use Rattle.bfd_demux.specs.Selection.{the_one};
+ghost use Rattle.bfd_demux.specs.Parts.{echo_target, first_echo_failing, first_past_header, first_session_failing, index_on, names_session};
+ghost use Rattle.bfd_demux.specs.Parts.{paired, target_named};
 ghost use Rattle.bfd_demux.specs.Index.{AreNames, AreAddresses, names_a_session};
 ghost use Rattle.bfd_demux.specs.Table.{how_many};
 

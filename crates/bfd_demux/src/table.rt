@@ -1,6 +1,7 @@
 //! Sorted tables: entries by key in ascending order, and the search that counts each entry that it looks at.
 
-ghost use Rattle.std.specs.Prelude.{ℕ, ◌≡◌, ◌+◌, ◌<◌, ◌≤◌, ◌∷◌, length, false, true, slice_index_or, IfSome, IfNone, IsOk, MatchResult, OnErr, OnOk, vec_capacity, vec_len};
+ghost use Rattle.std.specs.Prelude.{ℕ, ◌≡◌, ◌+◌, ◌<◌, ◌≤◌, ◌∷◌, length, false, true, slice_index_or, IfSome, IfNone, IsOk, MatchResult};
+ghost use Rattle.std.specs.Prelude.{OnErr, OnOk, vec_capacity, vec_len};
 ghost use Rattle.std.specs.List.{list_any};
 ghost use Rattle.std.specs.List.Sorted.{IsPermutation};
 ghost use Rattle.std.specs.Ordering.{is_eq};

@@ -1,5 +1,6 @@
 //! The outside over memory.
-ghost use Rattle.std.specs.Prelude.{◌≡◌, ◌≢◌, ◌⊎◌, ℕ, ◌<◌, ◌++◌, [], List, Option, Some, length, min, IfOk, IsErrOf, IsTrue, ◌↔◌, Ok, take, drop, true, false, None};
+ghost use Rattle.std.specs.Prelude.{◌≡◌, ◌≢◌, ◌⊎◌, ℕ, ◌<◌, ◌++◌, [], List, Option, Some, length, min, IfOk, IsErrOf, IsTrue, ◌↔◌, Ok, take};
+ghost use Rattle.std.specs.Prelude.{drop, true, false, None};
 ghost use Rattle.std.specs.Io.{ReadsAtMost, WritesAtMost};
 ghost use Rattle.std.specs.Io.KnownBytes.{ReadConsumes, WriteAppends};
 ghost use Rattle.bfd_edge.specs.Faults.{HasCause, Rose, raised};

@@ -1,5 +1,6 @@
 //! Timers as a wheel of levels.
-ghost use Rattle.std.specs.Prelude.{◌≡◌, ℕ, ◌+◌, ◌-◌, ◌*◌, ◌^◌, ◌++◌, ◌≤◌, ◌<◌, max, map, length, replicate, None, Some, IfOk, IfSome, OnErr, OnOk, slice_set};
+ghost use Rattle.std.specs.Prelude.{◌≡◌, ℕ, ◌+◌, ◌-◌, ◌*◌, ◌^◌, ◌++◌, ◌≤◌, ◌<◌, max, map, length, replicate, None, Some, IfOk, IfSome};
+ghost use Rattle.std.specs.Prelude.{OnErr, OnOk, slice_set};
 ghost use Rattle.std.specs.List.{insert, remove};
 ghost use Rattle.bfd_lanes.specs.Held.{room_of};
 ghost use Rattle.bfd_lanes.specs.Places.{come, due_of, without};

@@ -2,7 +2,8 @@
 ghost use Rattle.std.specs.Prelude.{◌≡◌, ◌≢◌, ◌↔◌, ◌<◌, ◌≤◌, ◌-◌, ◌^◌, false, true, length, take, Some, is_some, IfOk, IfSome, Err};
 ghost use Rattle.bfd_edge.specs.Links.{after_receive, after_send, no_counts};
 ghost use Rattle.bfd_net.specs.Hearing.{is_local_addr};
-ghost use Rattle.bfd_net.specs.Sockets.{answer_on_error, arrival_from, link_observed, is_done, quiets_after, sent_of, CameTo, IsGot, IsHeard, IsTo};
+ghost use Rattle.bfd_net.specs.Sockets.{answer_on_error, arrival_from, link_observed, is_done, quiets_after, sent_of, CameTo, IsGot};
+ghost use Rattle.bfd_net.specs.Sockets.{IsHeard, IsTo};
 
 use crate::clock::SinceMade;
 use crate::hearing::is_local;

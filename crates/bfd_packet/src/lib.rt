@@ -6,7 +6,8 @@
 //!
 //! It stands on `byteorder` and `arrayvec` alone. It promises that `header_test` and `read` are the
 //! standard's sentences for every payload and port, that `write` is the standard's layout, that
-//! `write_plain` gives the same without a section, that what is written reads back, and that only `Payload::keep` and copies allocate memory.
+//! `write_plain` gives the same without a section, that what is written reads back, and that only `Payload::keep`
+//! and copies allocate memory.
 #![tactic(auto)]
 
 mod arrival;

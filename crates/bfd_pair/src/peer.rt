@@ -1,5 +1,6 @@
 //! One side: its session, how packets reach it, and all that it has sent.
-ghost use Rattle.std.specs.Prelude.{◌≡◌, ◌<◌, ◌≤◌, ◌+◌, ◌*◌, ◌++◌, ◌∷◌, [], ℕ, List, max, length, drop, vec_len, vec_capacity, IfOk, OnOk, OnErr, None, Some, MatchOption};
+ghost use Rattle.std.specs.Prelude.{◌≡◌, ◌<◌, ◌≤◌, ◌+◌, ◌*◌, ◌++◌, ◌∷◌, [], ℕ, List, max, length, drop, vec_len, vec_capacity, IfOk, OnOk};
+ghost use Rattle.std.specs.Prelude.{OnErr, None, Some, MatchOption};
 ghost use Rattle.std.specs.Result.{result_err};
 ghost use Rattle.bfd_num.specs.Numbers.{moment_bound, greatest_tick};
 ghost use Rattle.bfd_packet.specs.declared.arrival.Arrival.{Arrival};

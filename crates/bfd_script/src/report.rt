@@ -1,5 +1,6 @@
 //! The report lines of one event.
-ghost use Rattle.std.specs.Prelude.{◌≡◌, ◌≤◌, ◌+◌, ◌*◌, ◌++◌, ◌∷◌, ℕ, [], IfOk, OnErr, OnOk, codes, decimal, drop, length, string_bytes, take};
+ghost use Rattle.std.specs.Prelude.{◌≡◌, ◌≤◌, ◌+◌, ◌*◌, ◌++◌, ◌∷◌, ℕ, [], IfOk, OnErr, OnOk, codes, decimal, drop, length, string_bytes};
+ghost use Rattle.std.specs.Prelude.{take};
 ghost use Rattle.hex.specs.Hex.{encode_lower};
 ghost use Rattle.std.specs.List.{flat_map};
 ghost use Rattle.bfd_script.specs.Report.{answer_line, event_lines, item_line};

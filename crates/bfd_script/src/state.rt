@@ -3,7 +3,8 @@ ghost use Rattle.std.specs.Prelude.{◌≡◌, IfOk};
 ghost use Rattle.bfd_session.specs.Step.{IsFit};
 ghost use Rattle.bfd_script.specs.Gives.{Gives, GivesScript};
 ghost use Rattle.bfd_script.specs.Reading as reading;
-ghost use Rattle.bfd_script.specs.Reading.{admitted, text_ended, is_full, is_taken, start, with_config, with_event, with_key, with_keys, with_reflector};
+ghost use Rattle.bfd_script.specs.Reading.{admitted, text_ended, is_full, is_taken, start, with_config, with_event, with_key, with_keys};
+ghost use Rattle.bfd_script.specs.Reading.{with_reflector};
 ghost use Rattle.bfd_script.specs.Ranges.{IsChain, IsEntry, IsEvent, IsKey, IsReflector, IsRow};
 ghost use Rattle.bfd_script.specs.Sound.{IsScript};
 

@@ -195,7 +195,7 @@ tick-after c limit eff os f = rw (settled-after, finished-after) refl
 begun-after : (own : Option ℕ) (s : Running) (os : List Out) → begun own s os ≡ ahead os (begun own s [])
 begun-after own s os = cc (append-nil os)
 
-step-from : (s : Running) (eff : ℕ) (event : Event) (os : List Out) → step_from eff event s os ≡ ahead os (stepped_flow eff event s)
+pub step-from : (s : Running) (eff : ℕ) (event : Event) (os : List Out) → step_from eff event s os ≡ ahead os (stepped_flow eff event s)
 unfolding stepped_flow
 step-from s eff event os = cc (begun-after (Some eff) s os, step-after s.config eff event os (begun (Some eff) s []))
 
@@ -214,7 +214,7 @@ pub step_outs : (s : Running) (eff : ℕ) (event : Event) (os : List Out) → (s
 unfolding emits
 step_outs s eff event os = ap (λ f. f.course.outs) (step-from s eff event os)
 
-tick-from : (s : Running) (limit eff : ℕ) (os : List Out) → tick_from limit eff s os ≡ ahead os (ticked_flow limit eff s)
+pub tick-from : (s : Running) (limit eff : ℕ) (os : List Out) → tick_from limit eff s os ≡ ahead os (ticked_flow limit eff s)
 unfolding ticked_flow
 tick-from s limit eff os = cc (begun-after None s os, tick-after s.config limit eff os (begun None s []))
 
@@ -268,16 +268,3 @@ step_leaves (Initiator c) eff (Packet arrival) f kind = record { echo_kept = ref
 step_leaves (Head c) eff (Packet arrival) f kind = record { echo_kept = refl; number_kept = refl }
 step_leaves (Tail c) eff (Packet arrival) f kind = record { echo_kept = refl; number_kept = refl }
 step_leaves c eff event f kind = record { echo_kept = refl; number_kept = refl }
-
-pub plain_step : (s : Running) (eff : ℕ) (event : Event) → IsPlainKind s.config → LeavesEcho (stepped_flow eff event s) s.echo s.echo_next
-unfolding stepped_flow
-plain_step s eff event kind = step_leaves s.config eff event _ kind
-
-tick_leaves : (c : SessionConfig) (limit eff : ℕ) (f : Flow) → IsPlainKind c → LeavesEcho (tick c limit eff f) f.echo f.echo_next
-unfolding tick
-tick_leaves (PointToPoint c) limit eff f kind = elim kind [ ]
-tick_leaves c limit eff f kind = record { echo_kept = refl; number_kept = refl }
-
-pub plain_tick : (s : Running) (limit eff : ℕ) → IsPlainKind s.config → LeavesEcho (ticked_flow limit eff s) s.echo s.echo_next
-unfolding ticked_flow
-plain_tick s limit eff kind = tick_leaves s.config limit eff _ kind

@@ -21,6 +21,7 @@ mod event;
 mod head;
 mod initiator;
 mod law;
+mod plain;
 mod point;
 mod rows;
 mod session;

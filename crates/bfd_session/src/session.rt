@@ -8,7 +8,8 @@ ghost use Rattle.bfd_session.specs.Due as due;
 ghost use Rattle.bfd_session.specs.Step.{IsFit, IsSound, CanTake, HasSize, started, next, emits, reply, tick_next, tick_emits};
 
 use crate::answering::is_for;
-use crate::{Answer, Event, SessionConfig, head, initiator, point, tail};
+use crate::plain::PlainMachine;
+use crate::{Answer, Event, SessionConfig, plain, point};
 use bfd_echo::Echo;
 use bfd_mp::{Head, Tail};
 use bfd_p2p::{P2p, control_port};
@@ -155,9 +156,9 @@ impl Session {
             Machine::PointToPoint(point, echo, next) => point::steps(
                 point, echo, next, eff, event, outs,
             ),
-            Machine::Initiator(initiator) => initiator::steps(initiator, eff, event, outs),
-            Machine::Head(head) => head::steps(head, eff, event, outs),
-            Machine::Tail(tail) => tail::steps(tail, eff, event, outs),
+            Machine::Initiator(initiator) => plain::steps(initiator, eff, event, outs),
+            Machine::Head(head) => plain::steps(head, eff, event, outs),
+            Machine::Tail(tail) => plain::steps(tail, eff, event, outs),
         }
     }
 
@@ -182,9 +183,9 @@ impl Session {
             Machine::PointToPoint(point, echo, next) => point::ticks(
                 point, echo, next, limit, eff, outs,
             ),
-            Machine::Initiator(initiator) => initiator::ticks(initiator, limit, eff, outs),
-            Machine::Head(head) => head::ticks(head, limit, eff, outs),
-            Machine::Tail(tail) => tail::ticks(tail, limit, eff, outs),
+            Machine::Initiator(initiator) => plain::ticks(initiator, limit, eff, outs),
+            Machine::Head(head) => plain::ticks(head, limit, eff, outs),
+            Machine::Tail(tail) => plain::ticks(tail, limit, eff, outs),
         }
     }
 
@@ -196,9 +197,9 @@ impl Session {
     {
         match &self.machine {
             Machine::PointToPoint(point, echo, _) => point::due_tick(point, echo),
-            Machine::Initiator(initiator) => initiator::due_tick(initiator),
-            Machine::Head(head) => head::due_tick(head),
-            Machine::Tail(tail) => tail::due_tick(tail),
+            Machine::Initiator(initiator) => initiator.due_tick(),
+            Machine::Head(head) => head.due_tick(),
+            Machine::Tail(tail) => tail.due_tick(),
         }
     }
 }

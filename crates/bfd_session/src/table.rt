@@ -1,5 +1,6 @@
 //! The sessions and reflectors of an engine: whom an arrival is for, and where a session stands.
-ghost use Rattle.std.specs.Prelude.{◌≡◌, ◌<◌, ◌≤◌, ◌+◌, ◌==◌, ◌⊎◌, ℕ, None, Some, IfOk, OnOk, IfSome, MatchOption, MatchResult, if◌then◌else◌, is_ok, length, map, position};
+ghost use Rattle.std.specs.Prelude.{◌≡◌, ◌<◌, ◌≤◌, ◌+◌, ◌==◌, ◌⊎◌, ℕ, None, Some, IfOk, OnOk, IfSome, MatchOption, MatchResult};
+ghost use Rattle.std.specs.Prelude.{if◌then◌else◌, is_ok, length, map, position};
 ghost use Rattle.std.specs.List.{insert, list_any, remove};
 ghost use Rattle.bfd_demux.specs.Rows.{add_fault, build_fault};
 ghost use Rattle.bfd_packet.specs.HeaderTests.{first_failing};

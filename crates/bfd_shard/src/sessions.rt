@@ -1,5 +1,6 @@
 //! Sessions with their timers and the last tick: what an event changes, no matter who keeps a journal of it.
-ghost use Rattle.std.specs.Prelude.{ℕ, ◌≡◌, ◌+◌, ◌<◌, ◌≤◌, ◌++◌, ◌∷◌, IfOk, IfSome, OnErr, OnOk, IsTrue, ◌↔◌, drop, length, map, take, vec_capacity, vec_len};
+ghost use Rattle.std.specs.Prelude.{ℕ, ◌≡◌, ◌+◌, ◌<◌, ◌≤◌, ◌++◌, ◌∷◌, IfOk, IfSome, OnErr, OnOk, IsTrue, ◌↔◌, drop, length, map, take};
+ghost use Rattle.std.specs.Prelude.{vec_capacity, vec_len};
 ghost use Rattle.std.specs.List.{AllByRecursion};
 ghost use Rattle.bfd_num.specs.Numbers.{greatest_tick};
 ghost use Rattle.bfd_lanes.specs.Held.{room_of};

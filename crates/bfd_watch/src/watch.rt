@@ -1,5 +1,6 @@
 //! A client's cursor over the history of a shard.
-ghost use Rattle.std.specs.Prelude.{ℕ, ◌≡◌, ◌+◌, ◌*◌, ◌<◌, ◌≤◌, ◌++◌, ◌∷◌, [], List, IfErr, IfOk, IsOk, IsTrue, OnErr, OnOk, ◌↔◌, length, vec_len, vec_capacity, map};
+ghost use Rattle.std.specs.Prelude.{ℕ, ◌≡◌, ◌+◌, ◌*◌, ◌<◌, ◌≤◌, ◌++◌, ◌∷◌, [], List, IfErr, IfOk, IsOk, IsTrue, OnErr, OnOk, ◌↔◌, length};
+ghost use Rattle.std.specs.Prelude.{vec_len, vec_capacity, map};
 ghost use Rattle.std.specs.List.{cons_option};
 ghost use Rattle.bfd_session.specs.Kinds.{configs_of};
 ghost use Rattle.bfd_session.specs.Rows.{AreFit};

@@ -1,5 +1,6 @@
 //! What every form of timers promises.
-ghost use Rattle.std.specs.Prelude.{◌≡◌, ℕ, ◌+◌, ◌^◌, ◌<◌, ◌≤◌, List, ◌++◌, map, length, replicate, Option, None, Some, slice_index_or, slice_set, IfOk, IfSome, OnErr, OnOk};
+ghost use Rattle.std.specs.Prelude.{◌≡◌, ℕ, ◌+◌, ◌^◌, ◌<◌, ◌≤◌, List, ◌++◌, map, length, replicate, Option, None, Some, slice_index_or};
+ghost use Rattle.std.specs.Prelude.{slice_set, IfOk, IfSome, OnErr, OnOk};
 ghost use Rattle.std.specs.List.{insert, remove};
 ghost use Rattle.bfd_lanes.specs.Held.{room_of};
 ghost use Rattle.bfd_lanes.specs.Places.{come, least, without};

@@ -1,5 +1,6 @@
 //! The due ticks as one list of numbers.
-ghost use Rattle.std.specs.Prelude.{◌≡◌, ◌≢◌, ◌+◌, ◌^◌, ◌<◌, ◌≤◌, map, length, replicate, IfOk, IfSome, OnErr, OnOk, None, slice_index_or, slice_set};
+ghost use Rattle.std.specs.Prelude.{◌≡◌, ◌≢◌, ◌+◌, ◌^◌, ◌<◌, ◌≤◌, map, length, replicate, IfOk, IfSome, OnErr, OnOk, None, slice_index_or};
+ghost use Rattle.std.specs.Prelude.{slice_set};
 ghost use Rattle.std.specs.List.{insert, remove};
 ghost use Rattle.bfd_lanes.specs.Places.{never, due_of, without};
 

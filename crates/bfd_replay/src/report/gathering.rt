@@ -1,5 +1,6 @@
 //! The parts' pieces, taken in the order of a report.
-ghost use Rattle.std.specs.Prelude.{ℕ, ◌≡◌, ◌≢◌, ◌<◌, ◌≤◌, ◌+◌, ◌++◌, [], List, None, IfNone, IfOk, IfSome, OnOk, length, map, slice_index_or, sum_by, true};
+ghost use Rattle.std.specs.Prelude.{ℕ, ◌≡◌, ◌≢◌, ◌<◌, ◌≤◌, ◌+◌, ◌++◌, [], List, None, IfNone, IfOk, IfSome, OnOk, length, map};
+ghost use Rattle.std.specs.Prelude.{slice_index_or, sum_by, true};
 ghost use Rattle.bfd_replay.specs.Spread.{Dealt, Gathers, IsSpread, dealt_text};
 ghost use Rattle.bfd_replay.specs.Inside.{HasAll, IsLeast, first_key, keys};
 

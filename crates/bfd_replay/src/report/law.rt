@@ -12,7 +12,8 @@ ghost use Rattle.bfd_shard.specs.Dealing.{history_of, share};
 ghost use Rattle.bfd_shard.specs.History.{last_tick, moved, outcome_of, runs};
 ghost use Rattle.bfd_replay.specs.declared.report.queue.Numbered.{Numbered};
 ghost use Rattle.bfd_replay.specs.Pieces.{Piece, event_pieces, whole_piece};
-ghost use Rattle.bfd_replay.specs.Happenings.{Happening, Apart, Among, AreParts, session_event, in_shard, numbered, queue, shard_pieces, apart_pieces, whole_pieces};
+ghost use Rattle.bfd_replay.specs.Happenings.{Happening, Apart, Among, AreParts, session_event, in_shard, numbered, queue, shard_pieces};
+ghost use Rattle.bfd_replay.specs.Happenings.{apart_pieces, whole_pieces};
 ghost use Rattle.bfd_replay.specs.Spread.{AreGathered};
 
 /// Laws of sessions that are dealt out, and no work. A shard's sessions after its history are those of the whole table after

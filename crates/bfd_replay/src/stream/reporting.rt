@@ -1,5 +1,6 @@
 //! The report of a script, written as it comes.
-ghost use Rattle.std.specs.Prelude.{ℕ, ◌≡◌, ◌≤◌, ◌<◌, ◌+◌, ◌*◌, ◌++◌, [], ◌∷◌, IfErr, IfNone, IfOk, IfSome, List, OnOk, length, vec_capacity};
+ghost use Rattle.std.specs.Prelude.{ℕ, ◌≡◌, ◌≤◌, ◌<◌, ◌+◌, ◌*◌, ◌++◌, [], ◌∷◌, IfErr, IfNone, IfOk, IfSome, List, OnOk, length};
+ghost use Rattle.std.specs.Prelude.{vec_capacity};
 ghost use Rattle.std.specs.Io.KnownBytes.{Appends};
 ghost use Rattle.bfd_edge.specs.Faults.{HasCause};
 ghost use Rattle.bfd_engine.specs.Engines.{IsOf, AllThere, configs_at};
@@ -16,7 +17,8 @@ ghost use Rattle.bfd_replay.specs.Happenings.{Among};
 ghost use Rattle.bfd_replay.specs.Planned.{happening, happenings};
 ghost use Rattle.bfd_replay.specs.Counts.{counts_of};
 ghost use Rattle.bfd_replay.specs.Replayed.{HasTotals, HaveReplayed, taker_of};
-ghost use Rattle.bfd_replay.specs.PendingLines.{HasBrought, HasStopCause, HasReportedEvent, HasReportedFront, IsClosedAfter, IsEventStop, IsMeant, IsStop, ReportedUpTo, reason_of, outcomes_on};
+ghost use Rattle.bfd_replay.specs.PendingLines.{HasBrought, HasStopCause, HasReportedEvent, HasReportedFront, IsClosedAfter, IsEventStop};
+ghost use Rattle.bfd_replay.specs.PendingLines.{IsMeant, IsStop, ReportedUpTo, reason_of, outcomes_on};
 ghost use Rattle.bfd_replay.specs.Turning.{AllSole, HasKept, IsOfOne, Went, brought};
 ghost use Rattle.bfd_replay.specs.Written.{TookFront};
 ghost use Rattle.bfd_num.specs.Counting.{IsBlankOf};

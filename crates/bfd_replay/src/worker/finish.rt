@@ -1,5 +1,6 @@
 //! What the workers reported, put together again.
-ghost use Rattle.std.specs.Prelude.{ℕ, ◌≡◌, ◌≢◌, ◌≤◌, ◌<◌, ◌+◌, ◌%◌, ◌++◌, ◌∷◌, [], List, Ok, Result, Some, IfOk, length, map, slice_get, slice_index_or};
+ghost use Rattle.std.specs.Prelude.{ℕ, ◌≡◌, ◌≢◌, ◌≤◌, ◌<◌, ◌+◌, ◌%◌, ◌++◌, ◌∷◌, [], List, Ok, Result, Some, IfOk, length, map, slice_get};
+ghost use Rattle.std.specs.Prelude.{slice_index_or};
 ghost use Rattle.bfd_engine.specs.declared.fault.EngineFault.{EngineFault as FaultIn};
 ghost use Rattle.bfd_replay.specs.Pieces.{Piece};
 ghost use Rattle.bfd_replay.specs.Ends.{IsFine};

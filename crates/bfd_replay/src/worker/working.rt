@@ -6,7 +6,8 @@ ghost use Rattle.bfd_engine.specs.Engines.{IsOf, AllThere, configs_at};
 ghost use Rattle.bfd_engine.specs.Calls.{seen_at, taken_at};
 ghost use Rattle.bfd_engine.specs.Turned.{room_in};
 ghost use Rattle.bfd_replay.specs.Pieces.{event_pieces};
-ghost use Rattle.bfd_replay.specs.Working.{AreMet, HasDoneAt, HasFinished, HasLeft, HasStopped, HasReported, HasUsedAt, IsElsewhere, IsIdle, IsWorkerReady, IsTurnRefused, IsStopAt, is_tick};
+ghost use Rattle.bfd_replay.specs.Working.{AreMet, HasDoneAt, HasFinished, HasLeft, HasStopped, HasReported, HasUsedAt, IsElsewhere};
+ghost use Rattle.bfd_replay.specs.Working.{IsIdle, IsWorkerReady, IsTurnRefused, IsStopAt, is_tick};
 
 use crate::plan::Queue;
 use crate::report::{Numbered, Part};

@@ -1,5 +1,6 @@
 //! Lines, fields and numbers.
-ghost use Rattle.std.specs.Prelude.{◌≡◌, ◌+◌, ◌-◌, ◌++◌, ◌==◌, ◌<◌, ◌≤◌, ◌∷◌, [], ◌&&◌, ◌||◌, Err, IfOk, IfSome, IsTrue, MatchOption, Ok, OnOk, drop, if◌then◌else◌, length, map, nat_lt, not, slice_index, take, true};
+ghost use Rattle.std.specs.Prelude.{◌≡◌, ◌+◌, ◌-◌, ◌++◌, ◌==◌, ◌<◌, ◌≤◌, ◌∷◌, [], ◌&&◌, ◌||◌, Err, IfOk, IfSome, IsTrue, MatchOption, Ok};
+ghost use Rattle.std.specs.Prelude.{OnOk, drop, if◌then◌else◌, length, map, nat_lt, not, slice_index, take, true};
 ghost use Rattle.std.specs.Simd.Lanes.{mask_l};
 ghost use Rattle.std.specs.List.{list_all, position_or_len, slice_split};
 ghost use Rattle.std.specs.Char.{is_ascii_digit};

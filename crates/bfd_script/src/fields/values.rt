@@ -1,5 +1,6 @@
 //! Addresses and bytes.
-ghost use Rattle.std.specs.Prelude.{◌≡◌, ◌*◌, ◌+◌, ◌-◌, ◌<◌, ◌≤◌, ◌%◌, ◌^◌, ◌==◌, ◌∷◌, [], IfOk, IfSome, MatchResult, Ok, length, take, string_bytes};
+ghost use Rattle.std.specs.Prelude.{◌≡◌, ◌*◌, ◌+◌, ◌-◌, ◌<◌, ◌≤◌, ◌%◌, ◌^◌, ◌==◌, ◌∷◌, [], IfOk, IfSome, MatchResult, Ok, length, take};
+ghost use Rattle.std.specs.Prelude.{string_bytes};
 ghost use Rattle.std.specs.List.{before_first, slice_split};
 ghost use Rattle.hex.specs.Hex.{IsBytes};
 ghost use Rattle.bfd_packet.specs.declared.arrival.Addr.TheVariants.{V4};

@@ -1,6 +1,7 @@
 //! What one line says.
 ghost use Rattle.std.specs.Prelude.{◌≡◌, ◌∷◌, [], Err, IfOk, false, if◌then◌else◌, map, true};
-ghost use Rattle.bfd_script.specs.Entries.{added, added_of, alone, cmd_entry, keyed, keyed_of, numbered_of, plain_of, rx_entry, received_of, show_entry, shown_of, tick_entry, valued, version_by, versioned};
+ghost use Rattle.bfd_script.specs.Entries.{added, added_of, alone, cmd_entry, keyed, keyed_of, numbered_of, plain_of, rx_entry};
+ghost use Rattle.bfd_script.specs.Entries.{received_of, show_entry, shown_of, tick_entry, valued, version_by, versioned};
 ghost use Rattle.bfd_script.specs.Gives.{Gives};
 ghost use Rattle.bfd_script.specs.Ranges.{IsEntry, IsEvent};
 ghost use Rattle.bfd_script.specs.Verbs.{fits, verb_of};

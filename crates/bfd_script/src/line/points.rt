@@ -2,7 +2,8 @@
 ghost use Rattle.std.specs.Prelude.{◌≡◌, IfOk, IsTrue, map};
 ghost use Rattle.bfd_rules.specs.Sound.{is_echo_interval};
 ghost use Rattle.bfd_session.specs.Step.{IsFit};
-ghost use Rattle.bfd_script.specs.Points.{AreEnds, IsTiming, active_of, config_by, echo_of, ends_of, point_fields, p2p_row, point_with, role_of, timing_fields, timing_of};
+ghost use Rattle.bfd_script.specs.Points.{AreEnds, IsTiming, active_of, config_by, echo_of, ends_of, point_fields, p2p_row, point_with};
+ghost use Rattle.bfd_script.specs.Points.{role_of, timing_fields, timing_of};
 ghost use Rattle.bfd_script.specs.Ranges.{IsRow};
 
 use crate::fields::{LineFault, address, number};

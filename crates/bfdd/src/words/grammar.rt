@@ -1,6 +1,7 @@
 //! The words of each job.
 ghost use Rattle.std.specs.Prelude.{◌≡◌, ◌<◌, ◌≤◌, All, IfSome, None, length, map, string_bytes};
-ghost use Rattle.bfdd.specs.Grammar.{are_distinct, hands_of, job_of, leading, load_by, load_of, pair_job, replay_of, serve_of, watch_by, watch_of};
+ghost use Rattle.bfdd.specs.Grammar.{are_distinct, hands_of, job_of, leading, load_by, load_of, pair_job, replay_of, serve_of, watch_by};
+ghost use Rattle.bfdd.specs.Grammar.{watch_of};
 ghost use Rattle.bfdd.specs.Ranges.{AreHands, IsJob};
 
 use crate::words::job::{Hands, Job, Members};
