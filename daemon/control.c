@@ -188,7 +188,7 @@ void control_open(const struct endpoint *endpoint, bool listens) {
     loop_await(listener, LOOP_LISTENER, 0, EPOLLIN, accept_link);
 }
 
-bool control_tell(const struct session *s, const struct session_change *change UNUSED) {
+bool control_report(const struct session *s, const struct session_change *change UNUSED) {
     const struct dp_message message = {.type = DP_STATE_CHANGE, .body.state = s->state};
     return s->owner != NO_OWNER && put(&links[s->owner - 1], &message);
 }

@@ -160,16 +160,16 @@ struct session {
     uint32_t demand;          /* likewise: 1 in demand mode */
     uint32_t owner;
     struct path path;
-    bool is_open;          /* the engine has it */
-    bool is_refused;       /* that it couldn't be opened was said */
-    struct dp_state told;  /* what its owner has, which is Down for a new session */
-    uint64_t tell_at;      /* when its owner gets the next report; UINT64_MAX: never */
-    uint64_t begun;        /* when it was added */
-    uint64_t starts;       /* when its hold time has passed */
-    uint64_t ends;         /* when it is removed, unless a connection takes it: UINT64_MAX while it has one */
-    uint64_t since;        /* when the own state was last changed, or the session opened */
-    uint64_t heard;        /* when the last packet came that the engine accepted; 0: none did */
-    struct dp_state state; /* the own state and what the peer last sent */
+    bool is_open;             /* the engine has it */
+    bool is_refused;          /* that it couldn't be opened was said */
+    struct dp_state reported; /* what its owner has, which is Down for a new session */
+    uint64_t report_at;       /* when its owner gets the next report; UINT64_MAX: never */
+    uint64_t begun;           /* when it was added */
+    uint64_t starts;          /* when its hold time has passed */
+    uint64_t ends;            /* when it is removed, unless a connection takes it: UINT64_MAX while it has one */
+    uint64_t since;           /* when the own state was last changed, or the session opened */
+    uint64_t heard;           /* when the last packet came that the engine accepted; 0: none did */
+    struct dp_state state;    /* the own state and what the peer last sent */
     uint8_t peer_state;
     struct dp_counters counters; /* control packets that were accepted and sent */
     uint64_t ups, up_for;        /* how often it came Up, and how long it was Up, but for the time since it last came Up */
@@ -185,10 +185,10 @@ struct session_change {
 
 /* Reports this session's state to its owner, or a new value of its peer's: then there is no change, NULL. False if
  * the owner has no room for that now; then it is tried again in a second. */
-typedef bool session_teller(const struct session *s, const struct session_change *change);
+typedef bool session_reporter(const struct session *s, const struct session_change *change);
 
 /* Begins without a session, with the sockets. `keep` is for how long sessions go on without a connection. */
-void sessions_open(session_teller *tell, uint64_t keep);
+void sessions_open(session_reporter *report, uint64_t keep);
 
 /* Adds a session, or changes the one of the same discriminator to these values. What is refused is reported in a line. A new one
  * has the Auth Type and the key of `keyed`, which FRR's protocol doesn't carry, and nothing else of it; NULL: none. */
@@ -226,7 +226,7 @@ void view_listen(const char *path);
 /* Connects to the endpoint, or listens there. Then it has its round, and reports the sessions' changes. */
 void control_open(const struct endpoint *endpoint, bool listens);
 uint64_t control_round(uint64_t now);
-session_teller control_tell;
+session_reporter control_report;
 
 /* front: what both programs have in common, from the options to the last AdminDown ------------------------------------------- */
 
@@ -250,7 +250,7 @@ void front_read(int count, char **words, const struct program *program);
 _Noreturn void front_fault(void);
 
 /* Begins without a session, as sessions_open does. SIGUSR1, and front_view, view them to `views`. */
-void front_open(session_teller *tell, uint64_t keep, struct line views);
+void front_open(session_reporter *report, uint64_t keep, struct line views);
 void front_view(uint64_t now);
 
 /* Runs until SIGTERM or SIGINT, with this in each round too, if it isn't NULL; then ends the sessions. Before that they are viewed

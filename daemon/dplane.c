@@ -38,7 +38,7 @@ int main(int count, char **words) {
     struct endpoint endpoint;
     front_read(count, words, &dplane);
     if (optind + 1 != count || !endpoint_parse(words[optind], &endpoint)) front_fault();
-    front_open(control_tell, keep * 1000000, (struct line){stderr, false});
+    front_open(control_report, keep * 1000000, (struct line){stderr, false});
     control_open(&endpoint, listens);
     notify_ready();
     front_run(control_round, false);

@@ -63,13 +63,13 @@ static void take_signal(uint32_t signal, uint64_t now) {
     else log_greatest = log_greatest == LOG_DEBUG ? level : LOG_DEBUG;
 }
 
-void front_open(session_teller *tell, uint64_t keep, struct line line) {
+void front_open(session_reporter *report, uint64_t keep, struct line line) {
     views = line;
     at_terminal = isatty(STDIN_FILENO);
     signal(SIGCHLD, SIG_IGN); /* nobody waits for a child */
     if (folder) record_in(folder);
     loop_open(take_signal);
-    sessions_open(tell, keep);
+    sessions_open(report, keep);
     if (control) view_listen(control);
 }
 

@@ -32,7 +32,7 @@ static const struct choice choices[] = {
     {"passive", NULL, "send nothing before the peer is heard", .flag = &is_passive},
     {"auth", "TYPE:ID:KEYFILE", "authenticate by the Auth Type 1 to 5, the key's number 0 to 255, and the key in this file", .text = &auth},
     {"json", NULL, "write lines of JSON", .flag = &is_json},
-    {"on-change", "COMMAND", "run this by the shell at each change; BFDD_PEER, BFDD_STATE and others tell it which", .text = &command}};
+    {"on-change", "COMMAND", "run this by the shell at each change; BFDD_PEER, BFDD_STATE and others say which", .text = &command}};
 
 static const struct program peer = {
     "usage: bfdd-peer [OPTION].. LOCAL REMOTE\n"

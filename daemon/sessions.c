@@ -10,13 +10,13 @@
 
 enum { BUCKETS = 4096, NAME = 160, CAUSE = 160, CHANGE = 480 };
 enum { LEAST_PACKET = 24, LEAST_INTERVAL = 10000, GREATEST_INTERVAL = 60000000 };
-static const uint64_t SECOND = 1000000, TELL_AGAIN = 5000000;
+static const uint64_t SECOND = 1000000, REPORT_AGAIN = 5000000;
 static const uint8_t no_address[16];
 
 static bfdd_handle engine = BFDD_HANDLE_INIT;
 static uint64_t ticked; /* the engine's last tick, milliseconds */
 static uint64_t next_chores, keep;
-static session_teller *teller;
+static session_reporter *reporter;
 static struct session *by_discr[BUCKETS], *by_peer[BUCKETS], *all;
 
 /* Finding -------------------------------------------------------------------------------------------------------------- */
@@ -95,10 +95,10 @@ const char *session_name(const struct session *s) {
 
 /* Reports the state and the peer's values to the owner: again in the next second if there was no room, and Up every few seconds, since FRR
  * sets a session Down on its own side when one of several users leaves it. */
-static void tell(struct session *s, const struct session_change *change, uint64_t now) {
-    bool is_told = teller(s, change), is_up = s->state.state == BFDD_UP;
-    if (is_told) s->told = s->state;
-    s->tell_at = !is_told ? now : is_up ? now + TELL_AGAIN : UINT64_MAX;
+static void report(struct session *s, const struct session_change *change, uint64_t now) {
+    bool is_reported = reporter(s, change), is_up = s->state.state == BFDD_UP;
+    if (is_reported) s->reported = s->state;
+    s->report_at = !is_reported ? now : is_up ? now + REPORT_AGAIN : UINT64_MAX;
 }
 
 /* Why a state changed: an expiry, which any event may find, or the command, in these words, or what the peer sent. */
@@ -125,7 +125,7 @@ static void changed(struct session *s, const bfdd_output *out, const char *words
     if (out->state == BFDD_UP) s->ups++;
     s->state.state = out->state;
     s->since = now;
-    tell(s, &change, now);
+    report(s, &change, now);
 }
 
 /* Events --------------------------------------------------------------------------------------------------------------- */
@@ -213,7 +213,7 @@ static void handled(struct session *s, const bfdd_arrival *arrival, const bfdd_a
     else say_dropped(arrival, answer->name);
     if (is_last) take_outputs(NULL, moment);
     if (is_taken) s->heard = moment;
-    if (s->state.state == BFDD_UP && memcmp(&s->told, &s->state, sizeof s->told) != 0) tell(s, NULL, moment);
+    if (s->state.state == BFDD_UP && memcmp(&s->reported, &s->state, sizeof s->reported) != 0) report(s, NULL, moment);
 }
 
 /* Packets came. Those of sessions go to the engine, which stops behind each that leaves outputs. */
@@ -326,7 +326,7 @@ static void add_new(uint32_t owner, const struct dp_session *wanted, const bfdd_
     s->config.discr = wanted->discr;
     s->config.remote = address_of(wanted, wanted->destination);
     s->owner = owner;
-    s->ends = s->tell_at = UINT64_MAX;
+    s->ends = s->report_at = UINT64_MAX;
     s->begun = now;
     s->starts = now + (uint64_t)wanted->hold_ms * 1000;
     if (s->starts < next_chores) next_chores = s->starts;
@@ -355,7 +355,7 @@ void sessions_add(uint32_t owner, struct dp_session wanted, const bfdd_session *
     s->ends = UINT64_MAX;
     say(LOG_DEBUG, "%s was given its values again", session_name(s));
     give_changes(s, now);
-    if (is_taken && s->state.state == BFDD_UP) tell(s, NULL, now);
+    if (is_taken && s->state.state == BFDD_UP) report(s, NULL, now);
 }
 
 void sessions_remove(uint32_t discr, uint64_t now) {
@@ -383,7 +383,7 @@ static void second(struct session *s, uint64_t now) {
     if (!s->is_open && s->starts <= now) return open_session(s, now);
     give_changes(s, now);
     record_flush(&s->record);
-    if (s->tell_at <= now) tell(s, NULL, now);
+    if (s->report_at <= now) report(s, NULL, now);
 }
 
 static void tick(uint64_t now) {
@@ -415,10 +415,10 @@ void sessions_view(struct line line, uint64_t now) {
     }
 }
 
-void sessions_open(session_teller *tell_owner, uint64_t keep_for) {
+void sessions_open(session_reporter *report_to_owner, uint64_t keep_for) {
     static const char none[] = "bfd 1\nrun\nend\n";
     bfdd_complaint complaint = BFDD_COMPLAINT_INIT;
-    teller = tell_owner;
+    reporter = report_to_owner;
     keep = keep_for;
     if (bfdd_open(&engine, (const uint8_t *)none, sizeof none - 1, &complaint) != BFDD_DONE) fail("the sessions", "no memory");
     sockets_open(receive);

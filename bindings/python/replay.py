@@ -50,10 +50,10 @@ def replay(library, text):
         events = events.rstrip("\n").split("\n")[:-1]
         for number, line in enumerate(events, 1):
             happen(engine, line.split(" "))
-            for told in lines(engine):
-                report.append(f"{number} {told}\n")
-                sent += told.startswith("tx ")
-                dropped += told.startswith("drop ")
+            for reported in lines(engine):
+                report.append(f"{number} {reported}\n")
+                sent += reported.startswith("tx ")
+                dropped += reported.startswith("drop ")
     return "".join(report) + f"done {len(events)} {sent} {dropped}\n"
 
 

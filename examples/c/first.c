@@ -6,7 +6,7 @@
 
 static const char *const states[] = {"AdminDown", "Down", "Init", "Up"};
 
-static void tell(int number, bfdd_handle *engine) {
+static void print_changes(int number, bfdd_handle *engine) {
     bfdd_output out = BFDD_OUTPUT_INIT;
     while (bfdd_next(engine, &out) == BFDD_DONE)
         if (out.kind == BFDD_CHANGED)
@@ -22,11 +22,11 @@ int main(void) {
     bfdd_complaint complaint = BFDD_COMPLAINT_INIT;
     if (bfdd_open(&engine, (const uint8_t *)table, strlen(table), &complaint) != BFDD_DONE) return 1;
     bfdd_receive(&engine, &packet, payload, sizeof payload);
-    tell(1, &engine);
+    print_changes(1, &engine);
     bfdd_tick(&engine, 3001);
-    tell(2, &engine);
+    print_changes(2, &engine);
     bfdd_tick(&engine, 3002);
-    tell(3, &engine);
+    print_changes(3, &engine);
     bfdd_close(&engine);
     return 0;
 }
