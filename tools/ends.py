@@ -3,7 +3,7 @@ others.py the ends of seamless and multipoint BFD and the echo packets.
 
 A rule of what an end did is certain, since what it heard has passed the capturing point, but where packets are missing in the capture. A
 rule of what an end failed to do is certain of the local end alone: for the other, a packet may have been lost behind that point. So each
-finding is `wrong`, or `can't be told`. Nothing here is proved.
+finding is `wrong` or `undecided`. Nothing here is proved.
 """
 import collections
 
@@ -26,12 +26,12 @@ class End:
         self.port, self.iface, self.src, self.dst, self.is_local = port, iface, src, dst, is_local
         self.peer = self.auth = None
         self.keyed = False
-        self.discrs, self.epoch, self.rx_told, self.cache = [], 0, 1000000, {}
+        self.discrs, self.epoch, self.rx_announced, self.cache = [], 0, 1000000, {}
         self.count = self.sections = 0                     # packets, and those with an authentication section
         self.judge = self.noted = None                     # `noted`: what the last packet that was read says
         self.yours = set()                                 # each Your Discriminator
-        self.port_told = None                              # the last packet's source port
-        self.waiting = []                                  # echo packets sent while it wasn't Up, as far as it had told
+        self.last_source = None                            # the last packet's source port
+        self.waiting = []                                  # echo packets sent before its packets said Up
         self.reset()
         self.heard_at, self.holes = None, []               # the last packet's moment; between which moments packets are missing
         self.recent = collections.deque(maxlen=RECENT)     # (moment, number, state, drop)
@@ -44,8 +44,8 @@ class End:
         self.values = []                                   # (since, Desired Min TX, Required Min RX, Detect Mult)
         self.polls = collections.deque(maxlen=RECENT)      # moments of its packets with P that have no answer
         self.poll_since = self.poll_packets = None
-        self.unanswered_told = self.changed_without = self.old_tx = None
-        self.late_gaps, self.downs, self.silence_told, self.forgot_told = 0, None, None, None
+        self.unanswered_reported = self.changed_without = self.old_tx = None
+        self.late_gaps, self.downs, self.silence_reported, self.forgot_reported = 0, None, None, None
         self.zero, self.demand = [0, None], [0, None]      # packets in a row with Required Min RX 0, with D, and since when
         self.echoes = []                                   # (since, Required Min Echo RX)
         self.seq = self.seq_at = None
@@ -61,7 +61,7 @@ class End:
             self.discrs.append(said.my)
         self.auth = self.auth or said.auth
         if said.state == UP and said.rx:
-            self.rx_told = said.rx
+            self.rx_announced = said.rx
 
     def sought(self, said):
         """The discriminator of the session that a packet of this end goes to."""
@@ -72,9 +72,9 @@ class End:
     def faults(self, number, moment, said, drop, of_drop=OF_DROP):
         """What is wrong with a packet by itself, and by the test that drops it."""
         for rule, what in said.faults:
-            if rule != "source-port" or self.port_told != said.source:  # (which all packets of a session have)
+            if rule != "source-port" or self.last_source != said.source:  # (which all packets of a session have)
                 self.find(rule, number, moment, what)
-        self.port_told = said.source
+        self.last_source = said.source
         if drop in of_drop and not any(rule == of_drop[drop] for rule, _ in said.faults):
             self.find(of_drop[drop], number, moment, f"a receiver drops it by {drop}: {DROPS[drop][0]}")
 
@@ -165,7 +165,7 @@ class End:
     # Intervals.
 
     def span_of(self, since):
-        """The least and greatest Desired Min TX, Required Min RX and Detect Mult that this end told from a moment on."""
+        """The least and greatest Desired Min TX, Required Min RX and Detect Mult that this end announced from a moment on."""
         values = self.values
         if len(values) == 1:
             return values[0][1], values[0][1], values[0][2], values[0][2], values[0][3]
@@ -242,7 +242,7 @@ class End:
             self.find("demand", self.number, moment, f"a periodic packet without P, and the peer has D set since "
                       f"{seconds(peer.demand[1])}; allowed: none")
 
-    # Changes of what is told.
+    # Changes of what is announced.
 
     def changed(self, moment, said, before):
         if (said.tx, said.rx, said.mult) != (before.tx, before.rx, before.mult):
@@ -303,10 +303,10 @@ class End:
                 self.changed_without = None
         peer = self.peer
         if (peer and peer.poll_since is not None and peer.poll_packets > 1 and said.state == UP and not said.flags & FINAL
-                and peer.unanswered_told != peer.poll_since and peer.values and self.values):
+                and peer.unanswered_reported != peer.poll_since and peer.values and self.values):
             most = self.detection(peer.poll_since)[1]
             if moment - peer.poll_since > most + REACTION:
-                peer.unanswered_told = peer.poll_since
+                peer.unanswered_reported = peer.poll_since
                 self.find("poll-unanswered", self.number, moment, f"the peer's packets have P since {seconds(peer.poll_since)}, and none "
                           f"with F has come in the Detection Time of {span(most)}", since=peer.poll_since)
 
@@ -342,12 +342,12 @@ class End:
         most = self.detection(peer_since(self.peer.heard_at))[1]
         if silence <= most + max(slack, most // 20):
             return
-        if said.state in (INIT, UP) and self.silence_told != self.peer.heard_at:
-            self.silence_told = self.peer.heard_at
+        if said.state in (INIT, UP) and self.silence_reported != self.peer.heard_at:
+            self.silence_reported = self.peer.heard_at
             self.find("missed-expiry", self.number, moment, f"State {STATES[said.state]}, {span(silence)} after the peer's last packet; "
                       f"allowed: {span(most)}", self.is_local)
-        if said.state == DOWN and said.your and self.forgot_told != self.peer.heard_at:
-            self.forgot_told = self.peer.heard_at
+        if said.state == DOWN and said.your and self.forgot_reported != self.peer.heard_at:
+            self.forgot_reported = self.peer.heard_at
             self.find("forgotten-discriminator", self.number, moment, f"Your Discriminator {said.your}, {span(silence)} after the peer's "
                       f"last packet; allowed: 0 after {span(most)}", self.is_local)
 

@@ -1,6 +1,6 @@
 """Captures, frame by frame: pcap and pcapng files, and the UDP packets of BFD's ports in their frames.
 
-Files are read here, since dpkt's reader of pcapng knows one interface alone and its readers don't tell where a file was cut off;
+Files are read here, since dpkt's reader of pcapng knows one interface alone and its readers don't say where a file was cut off;
 IP and UDP are read by dpkt.
 """
 import gzip
@@ -28,7 +28,7 @@ LARGEST = 1 << 26  # a block beyond this is no packet
 class Frame(NamedTuple):
     moment: int  # microseconds since 1970
     link: int    # the link type
-    place: int   # the interface, where the file tells them apart
+    place: int   # the interface, where the file distinguishes them
     data: bytes
     size: int    # how many bytes it had on the wire
 

@@ -1,4 +1,4 @@
-"""What a replay tells of each session in time: its states, packets, drops, polls and demand mode."""
+"""What a replay reports of each session in time: its states, packets, drops, polls and demand mode."""
 from texts import ECHO, packet_of
 
 

@@ -18,7 +18,7 @@ class Seamless(End):
     def __init__(self, *given):
         super().__init__(*given)
         self.questions = collections.deque(maxlen=RECENT)  # of an initiator, without an answer yet
-        self.sent, self.told = {}, {}                      # by both discriminators: an initiator's last packet, the last two answers
+        self.sent, self.replies = {}, {}                   # by both discriminators: an initiator's last packet, the last two answers
 
     def sought(self, said):
         return said.your
@@ -39,9 +39,9 @@ class Seamless(End):
             self.questions.append(said)
         last, before, was_periodic = self.sent.get(key, (0, None, False))
         is_periodic = before is not None and before.contents == said.contents
-        told = self.peer.told.get(key, ()) if self.peer else ()
-        if is_periodic and was_periodic and told:
-            least = min(max(answer.rx, 0 if answer.state else SECOND) for answer in told) * 3 // 4
+        replies = self.peer.replies.get(key, ()) if self.peer else ()
+        if is_periodic and was_periodic and replies:
+            least = min(max(answer.rx, 0 if answer.state else SECOND) for answer in replies) * 3 // 4
             if moment - last < least - min(self.judge.slack, least // 20):
                 self.find("seeker-early", number, moment, f"{span(moment - last)} after the packet before it; allowed: {span(least)}")
         self.sent[key] = moment, said, is_periodic
@@ -52,7 +52,7 @@ class Seamless(End):
         fitting = [asked for asked in questions
                    if (asked.my, asked.your, bool(asked.flags & POLL)) == (said.your, said.my, bool(said.flags & FINAL))]
         key = said.your, said.my
-        self.told[key] = (*self.told.get(key, ())[-1:], said)
+        self.replies[key] = (*self.replies.get(key, ())[-1:], said)
         if not fitting:
             self.find("reflector-answer", number, moment, f"an answer to {said.your} from {said.my} with F {said.flags & FINAL > 0:d}; "
                       "allowed: one to each packet with D", bool(self.peer and self.peer.sent))
@@ -151,7 +151,7 @@ class Echoes:
                       f"{seconds(max(since))}; allowed: none")
 
     def settle(self, end, number, moment, ends):
-        """Whether an echo packet that was sent outside Up was sent before Up was told: the end's next packet says it."""
+        """Whether an echo packet that was sent outside Up was sent before Up was announced: the end's next packet says it."""
         if not any(one.last.state == UP for one in ends):
             self.find("echo-state", number, moment, f"an echo packet, and its sender's packets before and after it say "
                       f"{STATES[end.last.state]}; allowed: Up")
@@ -173,7 +173,7 @@ class Echoes:
         self.judge.find(rule, self, number, moment, what, certain, None)
 
     def close(self, moment):
-        """Nothing is left to be told."""
+        """Nothing is left to judge."""
 
     def name(self):
         return f"{shown(self.src)} to {shown(self.dst)}"

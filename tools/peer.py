@@ -1,4 +1,4 @@
-"""A BFD peer that sends what it is told to, over UDP sockets: what tools/probe plays to a daemon.
+"""A scripted BFD peer, over UDP sockets: what tools/probe plays to a daemon.
 
 Left alone it follows the daemon's state, answers P with F, and sends its periodic packets, as RFC 5880 has it, but begins no Poll Sequence
 by itself. Each of these can be turned off, and any packet can be sent between. Nothing here is proved.
@@ -186,7 +186,7 @@ class Peer:
         self.run(0.1)
 
     def detection(self):
-        """The Detection Time that the daemon has, in seconds, by what both sides tell (RFC 5880 section 6.8.4)."""
+        """The Detection Time that the daemon has, in seconds, by what both sides announce (RFC 5880 section 6.8.4)."""
         return self.mult * max(self.tx, self.came[-1].packet.rx) / 1e6
 
     def since(self, start):

@@ -9,7 +9,7 @@ from matplotlib.lines import Line2D
 from matplotlib.patches import Patch
 from matplotlib.ticker import FuncFormatter
 
-# Colours that people who don't tell red from green can tell.
+# Colours that red-green colour-blind people can distinguish.
 COLOURS = {"Up": "#009e73", "Init": "#f0c419", "Down": "#d55e00", "AdminDown": "#8c8c8c"}
 INK = {"Up": "white", "Init": "black", "Down": "white", "AdminDown": "white"}
 CAME, SENT, ECHO, DROP = "#222222", "#0072b2", "#e08214", "#b00020"

@@ -1,6 +1,6 @@
 """The probes of tools/probe: what each plays to a daemon, and what a right one does, with the section of its RFC.
 
-Each is given a peer (peer.py) and answers whether the daemon did right, or None where that can't be told, and what was seen. A probe that
+Each is given a peer (peer.py) and answers whether the daemon did right, or None if that is undecided, and what was seen. A probe that
 wants the session Up gets it so. Nothing here is proved.
 """
 import statistics
@@ -14,7 +14,7 @@ from rules import DEMAND, FINAL, MULTIPOINT, POLL
 SOON = 0.25         # seconds in which F has to come
 WATCH = 0.6         # in which a packet that was accepted would show in Up
 SLOW = 1.4          # the same outside Up, where packets come each second
-SPARE = 0.3         # by which a state may be told late
+SPARE = 0.3         # by which a state may be announced late
 EARLY = 0.01        # by which a timer may seem early
 STRAY = 0.05        # the part of all gaps that may be too short or too long, since a machine with other work delays packets
 
@@ -69,7 +69,7 @@ def stays(peer, present, /, **given):
 
 
 def refused(peer, present, /, **given):
-    """A packet with P that has to be discarded: no F comes, and the state stays. Without P a daemon that took it may not tell so soon."""
+    """A packet with P that has to be discarded: no F comes, and the state stays. Without P a daemon may accept it and show that later."""
     peer.send(peer.packet(**({"flags": POLL} | given)))
     came = peer.run(SLOW, lambda came: came.packet.has("F") or came.packet.state != present)
     if came is None:
@@ -169,7 +169,7 @@ def init_to_up(peer):
 
 
 def goes_up(peer, state):
-    """Init, or Up in Init, brings it Up; it may tell so by its next periodic packet, so the peer goes on till then."""
+    """Init, or Up in Init, brings it Up; it may say so in its next periodic packet, so the peer goes on till then."""
     peer.follows, peer.sends, peer.state, peer.diag, peer.next = False, True, state, 0, 0.0
     came = peer.run(SLOW * 2, lambda came: came.packet.state == "Up")
     return came is not None, "it went Up" if came else f"it wasn't Up within {SLOW * 2} seconds"

@@ -1,6 +1,6 @@
 """What a receiver has to do with each packet of a capture: the discard tests of the program, asked for each direction.
 
-Each end that packets go to becomes a session of a packet file, with the discriminator that it told, and again for each discriminator
+Each end that packets go to becomes a session of a packet file, with the discriminator that it announced, and again for each discriminator
 that it had later. A session without keys is given each packet once, however often it came, and whatever its sequence number and digest:
 its discard tests look at the packet alone, and at none of these. One with keys is given all, since a sequence number depends on those
 before. Sessions that can't stand in one packet file, as two with one discriminator, are put into several.
@@ -67,7 +67,7 @@ def slot_of(end, said, keys, unkeyed):
         return Slot(discr, [f"tail {discr} {discr} {ends}"], (end.port, discr, end.dst, end.src))
     if end.port == "answer":
         return Slot(discr, [f"sbfd {discr} {said.my or 1} {ends} 1000000 3 0"], None)
-    rx = min(max(end.peer.rx_told if end.peer else 1000000, 10000), 60000000)
+    rx = min(max(end.peer.rx_announced if end.peer else 1000000, 10000), 60000000)
     table = [f"p2p {discr} {end.port} {ends} passive 1000000 {rx} 3 0 0"]
     if end.auth:
         fitting = {}

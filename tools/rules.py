@@ -122,7 +122,7 @@ class Said:
         self.auth = section[0] if section else None
         self.key = section[2] if len(section) > 2 else None
         self.is_numbered = self.auth in (2, 3, 4, 5) and len(section) >= 8
-        self.contents = head[:1] + bytes([head[1] & ~(POLL | FINAL)]) + head[2:]  # what an extra packet may tell (section 6.8.7)
+        self.contents = head[:1] + bytes([head[1] & ~(POLL | FINAL)]) + head[2:]  # what an extra packet may announce (section 6.8.7)
         self.faults = tuple(faults_of(self))
 
     def is_whole(self):

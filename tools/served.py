@@ -9,7 +9,7 @@ from texts import EVENTS, Complaint, Line, Script, quoted, text_of
 
 SESSIONS = ("p2p", "sbfd", "head", "tail")
 REPORTED = ("state", "tx", "drop", "refuse", "show")
-BACK_TTL = 254  # of an echo packet that came back: a served text doesn't tell it, and nothing asks for it
+BACK_TTL = 254  # of an echo packet that came back: a served text doesn't have it, and nothing reads it
 
 
 class Shard:

@@ -125,7 +125,7 @@ class Session(NamedTuple):
     head: int | None  # the discriminator of a tail's head
 
     def selectors(self):
-        """What tells packets of this session that name no discriminator of it."""
+        """What selects this session for packets that name no discriminator of it."""
         return (self.kind, self.iface if self.kind != "multi" else None, self.local, self.remote, self.head)
 
     def port(self):

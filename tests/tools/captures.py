@@ -106,15 +106,15 @@ def packets(data):
         if kind != 6:
             continue
         _, high, low, length, _ = struct.unpack_from("<IIIII", body)
-        ip, rest, told = body[20:20 + length], body[20 + (length + 3) // 4 * 4:], {}
+        ip, rest, options = body[20:20 + length], body[20 + (length + 3) // 4 * 4:], {}
         while len(rest) >= 4 and (code := struct.unpack_from("<H", rest)[0]):
             size = struct.unpack_from("<H", rest, 2)[0]
-            told[code], rest = rest[4:4 + size], rest[4 + (size + 3) // 4 * 4:]
+            options[code], rest = rest[4:4 + size], rest[4 + (size + 3) // 4 * 4:]
         six = ip[0] >> 4 == 6
         ends = [socket.inet_ntop(socket.AF_INET6 if six else socket.AF_INET, end)
                 for end in ((ip[8:24], ip[24:40]) if six else (ip[12:16], ip[16:20]))]
         udp = ip[40 if six else 20:]
         ports = struct.unpack_from(">HH", udp)
-        found.append(Found(high << 32 | low, *ends, ip[7 if six else 8], ports[1], udp[8:], ports, told[2][0] == 1,
-                           told.get(1, b"").decode("ascii")))
+        found.append(Found(high << 32 | low, *ends, ip[7 if six else 8], ports[1], udp[8:], ports, options[2][0] == 1,
+                           options.get(1, b"").decode("ascii")))
     return found

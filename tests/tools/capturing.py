@@ -62,7 +62,7 @@ def ends(is_ours, ours=OURS, peer=PEER):
 
 
 @test("dpkt")
-def capture_tells_interfaces_and_vlans_apart(place):
+def capture_distinguishes_interfaces_and_vlans(place):
     frames = [(moment, framed(ETHERNET, ip), 0) for moment, ip in handshake()]
     frames += [(400000 + moment, framed(RAW_IP, ip), 1) for moment, ip in handshake()]
     frames += [(800000 + moment, framed(ETHERNET, ip, (9,)), 0) for moment, ip in handshake()]
@@ -215,7 +215,7 @@ def odd_packet(draws):
 
 
 @test("dpkt")
-def capture_tells_echo_packets_that_came_back(place):
+def capture_finds_echo_packets_that_came_back(place):
     def echo(moment, number, ttl):
         return moment, framed(ETHERNET, ip_packet(OURS, OURS, 3785, b"BFDe" + struct.pack(">III", 1, number, 0), ttl=ttl))
 

@@ -29,7 +29,7 @@ UP = [rx(100000, "state=Down my=7 tx=200000"), rx(200000, "state=Init my=7 your=
 
 
 @test()
-def explain_tells_the_detection_time_as_a_product(place):
+def explain_shows_the_detection_time_as_a_product(place):
     """By RFC 5880 section 6.8.4: Detect Mult 4 of the peer times 400 ms, the greater of our Required Min RX and its 200 ms."""
     text = history(TABLE, *UP, rx(300000, "state=Up my=7 your=1 mult=4 tx=200000 rx=300000"), "tick 1000", "tick 1899", "tick 1905")
     change = explained(place, place.file("a.script", text))[0]["changes"][-1]
@@ -44,7 +44,7 @@ def explain_tells_the_detection_time_as_a_product(place):
 
 
 @test()
-def explain_tells_each_cause(place):
+def explain_names_each_cause(place):
     rows = [([rx(300000, "state=Down my=7 your=1 diag=1")], "peer", "The peer said Down, diagnostic 1 (Control Detection Time Expired)",
              "the peer heard nothing from this side"),
             ([rx(300000, "state=Down my=9 your=0")], "peer", "My Discriminator changed from 7 to 9: it restarted",
@@ -65,14 +65,14 @@ def explain_tells_each_cause(place):
 
 
 @test()
-def explain_tells_echo_packets_that_are_missing(place):
+def explain_names_echo_packets_that_are_missing(place):
     script = TOP / "examples/echo.script"  # (its comment in examples/README.md: packets 4, 5 and 6 don't come back)
     change = explained(place, script)[0]["changes"][-1]
     same((change["cause"], change["diagnostic"], [row["number"] for row in change["outstanding"]]), ("echo", 2, [4, 5, 6]), "outstanding")
 
 
 @test()
-def explain_tells_why_a_session_never_came_up(place):
+def explain_says_why_a_session_never_came_up(place):
     table = [*TABLE, f"auth 1 5 5 {SECRET}"]
     for words, name in (("auth=5 key=6 secret=73656372 seq=1", "AuthKey"), ("auth=5 key=5 secret=00 seq=1", "AuthDigest"),
                         ("", "AuthMissing")):
@@ -177,7 +177,7 @@ def explain_and_judge_agree_with_two_birds(place):
     same((down["cause"], down["detection_time"]), ("expiry", 900000), "the cause")
     has(down["text"], "with another My Discriminator")
     for local in ("10.0.0.1", "10.0.0.2"):
-        has(place.tool("judge", "--local", local, "--slack", "100", path)[0], "0 findings wrong, 0 that can't be told")
+        has(place.tool("judge", "--local", local, "--slack", "100", path)[0], "0 findings wrong, 0 undecided")
 
 
 @test("dpkt", "netns", "bird", "keepalived", "tcpdump")

@@ -6,7 +6,7 @@ import time
 from daemons import Net, wait_for
 from trials import TOP, Wrong, has, same, test
 
-# What is seen of `serve` that isn't the engine's: a socket here tells it no TTL, and its links' ports are those of its packets.
+# What is seen of `serve` that isn't the engine's: a socket here gives it no TTL, and its links' ports are those of its packets.
 OF_SOCKETS = {"ttl-254", "own-port-range", "own-port-one"}
 
 

@@ -21,24 +21,24 @@ def served_as(script, count):
         lines.setdefault(line.number, []).append(line)
     discrs, shards, sent = sorted(parsed.sessions), [[] for _ in range(count)], 0
 
-    def enter(shard, event, told):
+    def enter(shard, event, reported):
         turn = event.words if not (event.arrival and event.arrival.port == "echo") else [
             "back", event.words[1], str(parsed.session_of(event)), str(int.from_bytes(event.arrival.payload[8:12], "big"))]
-        shards[shard].append((" ".join([str(int(event.word not in ("tick", "cmd", "show"))), *turn]), told))
+        shards[shard].append((" ".join([str(int(event.word not in ("tick", "cmd", "show"))), *turn]), reported))
 
     for number, event in enumerate(parsed.events, 1):
-        told = [line for line in lines.get(number, ()) if line.word != "tx" or int(line.words[0]) not in parsed.reflectors]
+        reported = [line for line in lines.get(number, ()) if line.word != "tx" or int(line.words[0]) not in parsed.reflectors]
         if event.word == "tick":
             for shard in range(count):
-                enter(shard, event, [line for line in told if discrs.index(int(line.words[0])) % count == shard])
-        elif parsed.session_of(event) in discrs and not any(line.word == "drop" and line.words[0] in BEFORE_SELECTION for line in told):
-            enter(discrs.index(parsed.session_of(event)) % count, event, told)
+                enter(shard, event, [line for line in reported if discrs.index(int(line.words[0])) % count == shard])
+        elif parsed.session_of(event) in discrs and not any(line.word == "drop" and line.words[0] in BEFORE_SELECTION for line in reported):
+            enter(discrs.index(parsed.session_of(event)) % count, event, reported)
     out = []
     for shard, entries in enumerate(shards):
         out.append(f"shard {shard}")
-        for at, (turn, told) in enumerate(entries, 1):
-            out += [f"turn {at} {turn}", *(" ".join([str(at), line.word, *line.words]) for line in told)]
-            sent += sum(line.word == "tx" for line in told)
+        for at, (turn, reported) in enumerate(entries, 1):
+            out += [f"turn {at} {turn}", *(" ".join([str(at), line.word, *line.words]) for line in reported)]
+            sent += sum(line.word == "tx" for line in reported)
     live = "\n".join(line for line in text.split("\n") if not line.startswith(("rx ", "tick ")))
     return live, "\n".join([*out, f"served {sum(map(len, shards))} {sent} 0", ""])
 
@@ -56,11 +56,11 @@ def busy_run(shards, entries, sessions):
         for at in range(1, entries + 1):
             discr, moment = own[at // 6 % len(own)], at * 700
             came = f"2 rx {moment} single 1 127.0.{discr // 250}.{discr % 250 + 1} 127.0.0.1 255 "
-            tells = {0: (came + heard["Up P F"].hex(), f"state {discr} Down Up 0", f"tx {discr} {heard['Up P F'].hex()}"),
+            entry = {0: (came + heard["Up P F"].hex(), f"state {discr} Down Up 0", f"tx {discr} {heard['Up P F'].hex()}"),
                      1: (f"0 cmd {moment} {discr} tx 300000", "refuse PollBusy"), 2: (came + heard["Up"].hex(), "drop AuthKey"),
                      3: (f"3 back {moment} {discr} {at}", "drop EchoStale"),
                      4: (f"0 tick {moment // 1000}", f"tx {discr} 42464465{discr:08x}{at:08x}00000000"),
                      5: (came + heard["Down"].hex(), f"state {discr} Up Down 3")}[at % 6]
-            out += [f"turn {at} {tells[0]}", *(f"{at} {line}" for line in tells[1:])]
+            out += [f"turn {at} {entry[0]}", *(f"{at} {line}" for line in entry[1:])]
             sent += at % 6 in (0, 4)
     return "\n".join(["bfd 1", *table, "run", "end", ""]), "\n".join([*out, f"served {shards * entries} {sent} 0", ""]), sent
