@@ -1,4 +1,4 @@
-"""The report that a busy script must give: its rules told once more in plain Python, and slowly.
+"""The report that a busy script must give: its rules once more in plain Python, and slowly.
 
 It knows the lines `p2p`, `rx` and `tick`, on the ports single and multi, without authentication, commands, questions, demand
 mode on this side and the Echo function: what examples/busy writes. Each rule is that of docs/PROTOCOL.md and of the section of
@@ -91,8 +91,8 @@ class Session:
         out.append(f"tx {self.discr} " + (head + b"".join(word.to_bytes(4, "big") for word in words)).hex())
 
     def event(self, limit, now, packet, out):
-        """One event: what is due by `limit` is done, then the packet is taken, then what changed is told."""
-        told, interval, base, final = (self.state, self.diag), self.interval(), False, False
+        """One event: what is due by `limit` is done, then the packet is taken, then what changed is sent."""
+        announced, interval, base, final = (self.state, self.diag), self.interval(), False, False
         if self.deadline() <= limit:
             self.heard, self.peer = None, 0
             if self.state in (INIT, UP):
@@ -100,10 +100,10 @@ class Session:
         if self.send_due is not None and self.send_due <= limit // 1000 and self.may_send():
             self.send(0 if self.poll == NO_POLL else POLL, out)
             self.poll = RUNNING if self.poll == WANTED else self.poll
-            self.sent, base, told = now, True, (self.state, self.diag)
+            self.sent, base, announced = now, True, (self.state, self.diag)
         if packet:
             final = self.take(packet, now, out)
-        if told != (self.state, self.diag) and not final and self.may_send():
+        if announced != (self.state, self.diag) and not final and self.may_send():
             self.send(0, out)
             self.sent, base = now, True
         if not self.may_send():

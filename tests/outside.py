@@ -219,7 +219,7 @@ def found(wrong):
 
 
 def tried(title, function, program, kept, tries):
-    """What the last of so many tries at most found, and which try that was. Only what came late is tried again, and it is told."""
+    """What the last of so many tries at most found, and which try that was. Only what came late is tried again, and that is printed."""
     for number in range(1, tries + 1):
         wrong, why = outcome(title if number == 1 else f"{title}.{number}", function, program, kept)
         if not isinstance(wrong, Late) or number == tries:
@@ -228,7 +228,7 @@ def tried(title, function, program, kept, tries):
 
 
 def chosen(tests, words, lister):
-    """Those whose names have one of the words. A word that no name has ends the command, and tells which command lists the names."""
+    """Those whose names have one of the words. A word that no name has ends the command, and a line says which command lists the names."""
     unknown = [word for word in words if not any(word in title for title, _ in tests)]
     if unknown:
         print(f"{lister.split()[0]}: no test is named {' or '.join(unknown)}; `{lister}` lists them", file=sys.stderr)
@@ -247,21 +247,21 @@ def main(name, tests, prepare=None, long=(), tries=1):
     parser.add_argument("--list", action="store_true", help="the names alone")
     parser.add_argument("--install", action="store_true", help="first install what Debian has of what is missing")
     parser.add_argument("words", nargs="*", help="parts of names")
-    told = parser.parse_args()
-    tests = [*tests, *long] if long and told.long else tests
-    tests = chosen(tests, told.words, f"{name} --long --list" if long else f"{name} --list")
-    if told.list:
+    options = parser.parse_args()
+    tests = [*tests, *long] if long and options.long else tests
+    tests = chosen(tests, options.words, f"{name} --long --list" if long else f"{name} --list")
+    if options.list:
         print("\n".join(title for title, _ in tests))
         return
     if IN_OWN not in os.environ and prepare:
-        prepare(told.install)
-    program = told.program or proved()
+        prepare(options.install)
+    program = options.program or proved()
     enter_own_network()
     signal.signal(signal.SIGTERM, lambda *_: sys.exit(143))  # (so that daemons and namespaces are ended then too)
     failed = skipped = 0
     print(f"1..{len(tests)}", flush=True)
     for number, (title, function) in enumerate(tests, 1):
-        wrong, why, at = tried(title, function, program, told.keep, tries)
+        wrong, why, at = tried(title, function, program, options.keep, tries)
         failed, skipped = failed + (wrong is not None), skipped + (why is not None)
         note = f" # SKIP {why}" if why is not None else f" # at try {at}" if at > 1 else ""
         print(f"{'ok' if wrong is None else 'not ok'} {number} - {title}{note}", flush=True)

@@ -68,8 +68,8 @@ def words_of(text):
     field |= {word: int.from_bytes(text[at:at + 4], "big") for word, at in zip(WORDS, range(4, 24, 4))}
     field["length"] = None if text[3] == len(text) else text[3]
     bits = [bit for bit in BITS if text[1] & BITS[bit]]
-    told = ("state", "my", "your", "tx", "rx")
-    shown = [f"{name}={value}" for name, value in field.items() if name in told or value != USUAL[name]]
+    always = ("state", "my", "your", "tx", "rx")
+    shown = [f"{name}={value}" for name, value in field.items() if name in always or value != USUAL[name]]
     return " ".join(shown + bits + ([f"more={text[24:].hex()}"] if len(text) > 24 else []))
 
 

@@ -1,7 +1,7 @@
 """A plain peer that keeps a session Up, and datagrams that want to harm a serving program. tests/hostile stands on it.
 
 All is sent from one thread on one processor, so each link hears what it is sent in the order in which `Traffic` noted it. Which
-datagrams are entries of a journal is told by the discard tests of docs/PROTOCOL.md, once more in plain Python.
+datagrams are entries of a journal is decided by the discard tests of docs/PROTOCOL.md, once more in plain Python.
 """
 import os
 import random
@@ -95,7 +95,7 @@ class Traffic:
         return sum(lost for _, lost in self.queues().values())
 
     def wanted(self, port, discr, until=None):
-        """What the journal has to have of this port and session, in order: the words that tell it, and whether the peer sent it."""
+        """What the journal has to have of this port and session, in order: its words, and whether the peer sent it."""
         rows = []
         for data, source, own in self.log[port][:until]:
             if named(port, data, source) == discr:

@@ -85,13 +85,13 @@ static uint64_t many(bfdd_handle *engine) {
         bfdd_arrival in[34] = {0};
         for (size_t at = 0; at < size; at++)
             in[at] = (bfdd_arrival){from_peer, give(of_slice, down, sizeof down), sizeof down}, in[at].packet.iface = 2;
-        size_t *told = put(of_count, NULL, sizeof *told);
+        size_t *done = put(of_count, NULL, sizeof *done);
         bfdd_answered *answers = put(of_answer, unasked, size * sizeof *answers);
-        CHECK(bfdd_packets(engine, give(of_struct, in, size * sizeof *in), size, answers, size, told), BFDD_DONE);
-        count += *told;
+        CHECK(bfdd_packets(engine, give(of_struct, in, size * sizeof *in), size, answers, size, done), BFDD_DONE);
+        count += *done;
         CHECK(bfdd_tick(engine, 20000 + 100 * size), BFDD_DONE);
         const size_t places = size ? size : 1;
-        while (bfdd_outputs(engine, put(of_answer, unread, places * sizeof *unread), places, told) == BFDD_DONE) count += *told;
+        while (bfdd_outputs(engine, put(of_answer, unread, places * sizeof *unread), places, done) == BFDD_DONE) count += *done;
     }
     const bfdd_text none = {"", 0};
     CHECK(bfdd_find_name(BFDD_NAME_STATE, BFDD_UP, put(of_answer, &none, sizeof none)), BFDD_DONE);

@@ -141,7 +141,7 @@ static void disabled(void) {
     bfdd_close(&engine);
 }
 
-/* The Detection Time has passed, and no event yet has told the session so. */
+/* Looks settle nothing: a session whose Detection Time has passed stays Up until an event. */
 static void settles_nothing(void) {
     bfdd_handle engine = BFDD_HANDLE_INIT;
     CHECK(bfdd_open_session(&engine, &whole), BFDD_DONE);

@@ -70,7 +70,7 @@ class Control:
                 seen.append(state)
                 if holds(state):
                     return seen
-        raise AssertionError(f"not told: {what}; told: {seen}")
+        raise AssertionError(f"not reported: {what}; reported: {seen}")
 
     def quiet(self, discr, seconds):
         """The states other than Up that come meanwhile."""
