@@ -1,14 +1,12 @@
 /* What calls of one handle of N sessions take: instructions by callgrind, memory by mallinfo2 and the resident set.
    tests/c/instructions runs it under valgrind and prints the rows. */
 #define _GNU_SOURCE
-#include "check.h"
+#include "sessions.h"
 #include <malloc.h>
 #include <unistd.h>
 #include <valgrind/callgrind.h>
 
 enum { INTERVAL = 300000 };
-
-static uint64_t outputs;
 
 static void begin(void) {
     CALLGRIND_ZERO_STATS;
@@ -31,41 +29,6 @@ static long resident(void) {
     return used * sysconf(_SC_PAGESIZE);
 }
 
-static void word(uint8_t *at, uint32_t value) {
-    for (int i = 0; i < 4; i++) at[i] = (uint8_t)(value >> (24 - 8 * i));
-}
-
-/* A control packet of the peer of session i, in this state. */
-static void hear(bfdd_handle *engine, uint32_t i, uint64_t moment, uint8_t state, uint32_t your) {
-    uint8_t bytes[24] = {0x20, (uint8_t)(state << 6), 3, 24};
-    word(bytes + 4, 1000000 + i);
-    word(bytes + 8, your);
-    word(bytes + 12, INTERVAL);
-    word(bytes + 16, INTERVAL);
-    bfdd_packet packet = {sizeof packet, BFDD_PORT_SINGLE, moment, 1, 49152, 255,
-                          {4, {10, (uint8_t)(i >> 16), (uint8_t)(i >> 8), (uint8_t)i}}, {4, {192, 0, 2, 1}}};
-    CHECK(bfdd_receive(engine, &packet, bytes, sizeof bytes), BFDD_DONE);
-    bfdd_output output = BFDD_OUTPUT_INIT;
-    while (bfdd_next(engine, &output) == BFDD_DONE) outputs++;
-}
-
-static void tick(bfdd_handle *engine, uint64_t ms) {
-    CHECK(bfdd_tick(engine, ms), BFDD_DONE);
-    bfdd_output output = BFDD_OUTPUT_INIT;
-    while (bfdd_next(engine, &output) == BFDD_DONE) outputs++;
-}
-
-static char *table(uint32_t count) {
-    char *text = malloc((size_t)count * 120 + 64), *at = text;
-    if (!text) exit(1);
-    at += sprintf(at, "bfd 1\n");
-    for (uint32_t i = 1; i <= count; i++)
-        at += sprintf(at, "p2p %u single 1 192.0.2.1 10.%u.%u.%u active %d %d 3 0 %u\n", i, i >> 16, i >> 8 & 255, i & 255, INTERVAL,
-                      INTERVAL, i * 2654435761u);
-    sprintf(at, "run\nend\n");
-    return text;
-}
-
 /* Some of the sessions leave, and come again. */
 static void join(bfdd_handle *engine, uint32_t count) {
     uint32_t times = count < 10 ? count : 10, step = count / times;
@@ -84,7 +47,7 @@ static void join(bfdd_handle *engine, uint32_t count) {
 }
 
 static void open_all(bfdd_handle *engine, uint32_t count) {
-    char *text = table(count);
+    char *text = table(count, INTERVAL);
     bfdd_complaint complaint = BFDD_COMPLAINT_INIT;
     struct mallinfo2 before = mallinfo2();
     long pages = resident();
@@ -102,10 +65,10 @@ int main(int argc, char **argv) {
     uint64_t ms = 1000, due = 0;
     bfdd_handle engine = BFDD_HANDLE_INIT;
     open_all(&engine, count);
-    for (uint32_t i = 1; i <= count; i++) hear(&engine, i, 1000 * ms, 1, 0);
-    for (uint32_t i = 1; i <= count; i++) hear(&engine, i, 1000 * ms + 1, 2, i);
+    for (uint32_t i = 1; i <= count; i++) hear(&engine, i, 1000 * ms, DOWN, INTERVAL);
+    for (uint32_t i = 1; i <= count; i++) hear(&engine, i, 1000 * ms + 1, INIT, INTERVAL);
     begin();
-    for (uint32_t k = 0; k < many; k++) hear(&engine, 1 + k * 7919u % count, 1000 * ms + 2, 3, 1 + k * 7919u % count);
+    for (uint32_t k = 0; k < many; k++) hear(&engine, 1 + k * 7919u % count, 1000 * ms + 2, UP, INTERVAL);
     end("a packet of a session that is Up, its outputs read", many);
     tick(&engine, ms);
     begin();

@@ -1,63 +1,46 @@
-/* How long calls take: nanoseconds of processor time. */
-#include "check.h"
+/* How much of a processor the calls of one handle take while its sessions are Up: a packet of each peer in each interval, a tick each
+   millisecond, and all outputs read. Sockets and clocks are the daemon's. */
+#include "sessions.h"
 #include <time.h>
 
-static double cpu(void) {
+enum { SECONDS = 3, START = 1000 };
+
+static double processor(void) {
     struct timespec t;
     clock_gettime(CLOCK_PROCESS_CPUTIME_ID, &t);
-    return (double)t.tv_sec * 1e9 + (double)t.tv_nsec;
+    return (double)t.tv_sec + (double)t.tv_nsec / 1e9;
 }
 
-static uint64_t drain(bfdd_handle *engine) {
-    bfdd_output out = BFDD_OUTPUT_INIT;
-    uint64_t count = 0;
-    while (bfdd_next(engine, &out) == BFDD_DONE) count++;
-    return count;
+static void bring_up(bfdd_handle *engine, uint32_t count, uint32_t interval) {
+    static const uint8_t flags[] = {DOWN, INIT, UP_FINAL};
+    for (size_t at = 0; at < sizeof flags; at++)
+        for (uint32_t i = 1; i <= count; i++) hear(engine, i, 1000 * START, flags[at], interval);
+}
+
+static void measure(uint32_t count, uint32_t milliseconds) {
+    uint32_t interval = 1000 * milliseconds;
+    bfdd_handle engine = BFDD_HANDLE_INIT;
+    bfdd_complaint complaint = BFDD_COMPLAINT_INIT;
+    char *text = table(count, interval);
+    CHECK(open_text(&engine, text, &complaint), BFDD_DONE);
+    free(text);
+    bring_up(&engine, count, interval);
+    outputs = 0;
+    double start = processor();
+    for (uint64_t ms = START; ms < START + 1000 * SECONDS; ms++) {
+        for (uint32_t i = 1 + (uint32_t)(ms % milliseconds); i <= count; i += milliseconds) hear(&engine, i, 1000 * ms, UP, interval);
+        tick(&engine, ms);
+    }
+    double share = (processor() - start) / SECONDS;
+    bfdd_session_state state = BFDD_SESSION_STATE_INIT;
+    for (uint32_t i = 1; i <= count; i++) CHECK((bfdd_state(&engine, i, &state), state.state), BFDD_UP);
+    printf("%5u sessions at %3u ms: %5.1f %% of a processor, %.0f packets a second received and %.0f sent\n", count, milliseconds,
+           100 * share, 1000.0 * count / milliseconds, (double)outputs / SECONDS);
+    bfdd_close(&engine);
 }
 
 int main(void) {
-    enum { SESSIONS = 1000, ROUNDS = 2000 };
-    static char text[SESSIONS * 100];
-    size_t length = (size_t)sprintf(text, "bfd 1\n");
-    for (int i = 1; i <= SESSIONS; i++)
-        length += (size_t)sprintf(text + length, "p2p %d single %d 10.0.0.1 10.0.0.2 active 1000000 1000000 3 0 %d\n", i, i, i);
-    sprintf(text + length, "run\nend\n");
-    bfdd_handle engine = BFDD_HANDLE_INIT;
-    bfdd_complaint complaint = BFDD_COMPLAINT_INIT;
-    double start = cpu();
-    CHECK(open_text(&engine, text, &complaint), BFDD_DONE);
-    printf("opening %d sessions: %.0f ns\n", SESSIONS, cpu() - start);
-    bfdd_packet packet = from_peer;
-    uint64_t outputs = 0, ms = 0;
-    double packets = 0, idle = 0, busy = 0, dues = 0;
-    for (int round = 0; round < ROUNDS; round++) {
-        uint64_t due = 0;
-        start = cpu();
-        CHECK(bfdd_tick(&engine, ++ms), BFDD_DONE);
-        outputs += drain(&engine);
-        idle += round ? cpu() - start : 0;
-        start = cpu();
-        bfdd_due(&engine, &due);
-        dues += cpu() - start;
-        start = cpu();
-        for (uint32_t i = 1; i <= 10; i++) {
-            packet.moment = ms * 1000, packet.iface = 1 + (uint32_t)(round * 10 + (int)i) % SESSIONS;
-            CHECK(bfdd_receive(&engine, &packet, down, sizeof down), BFDD_DONE);
-            outputs += drain(&engine);
-        }
-        packets += cpu() - start;
-    }
-    printf("a packet and its outputs: %.0f ns\n", packets / (ROUNDS * 10));
-    printf("a tick of %d sessions, few due: %.0f ns\n", SESSIONS, idle / ROUNDS);
-    printf("the due tick of %d sessions: %.0f ns\n", SESSIONS, dues / ROUNDS);
-    outputs = 0;
-    for (int round = 0; round < 200; round++) {
-        start = cpu();
-        CHECK(bfdd_tick(&engine, ms += 2000), BFDD_DONE);
-        outputs += drain(&engine);
-        busy += cpu() - start;
-    }
-    printf("a tick of %d sessions, all due, and its %.0f outputs: %.0f ns\n", SESSIONS, (double)outputs / 200, busy / 200);
-    bfdd_close(&engine);
+    static const uint32_t counts[] = {100, 1000, 10000, 65536};
+    for (size_t at = 0; at < sizeof counts / sizeof *counts; at++) measure(counts[at], 300), measure(counts[at], 50);
     return 0;
 }
