@@ -6,7 +6,7 @@
 #include <sys/timerfd.h>
 #include <time.h>
 
-enum { EVENTS = 64, TICK = 1000 /* microseconds */ };
+enum { EVENTS = 64, GATHER = 5000 /* microseconds */ };
 
 static int epoll, signals, timer;
 static loop_act *acts[LOOP_KINDS];
@@ -67,21 +67,24 @@ static void carry_out(const struct epoll_event *events, int count, bool are_pack
     }
 }
 
-/* Rounds come at most once in a millisecond, the engine's tick: what comes meanwhile is gathered. */
-static void gather(uint64_t last_round) {
-    uint64_t now = clock_now();
-    if (now - last_round < TICK) nanosleep(&(struct timespec){.tv_nsec = (long)(TICK - now % TICK) * 1000}, NULL);
+/* After two rounds within GATHER sleeps for as long, but not beyond the moment at which something is due. What comes meanwhile is
+ * gathered: a packet has the moment at which the kernel received it. Whether that moment has come. */
+static bool gather(uint64_t last_round, uint64_t due) {
+    uint64_t now = clock_now(), left = due > now ? due - now : 0, sleep = left < GATHER ? left : GATHER;
+    if (now - last_round >= GATHER) return left == 0;
+    nanosleep(&(struct timespec){.tv_nsec = (long)sleep * 1000}, NULL);
+    return sleep == left;
 }
 
 void loop_run(loop_round *round) {
     struct epoll_event events[EVENTS];
     uint64_t last = 0;
     while (!is_ended) {
-        uint64_t now = clock_now();
-        set_timer(round(now));
-        gather(last);
+        uint64_t now = clock_now(), due = round(now);
+        bool is_due = gather(last, due);
         last = now;
-        int count = epoll_wait(epoll, events, EVENTS, -1);
+        if (!is_due) set_timer(due);
+        int count = epoll_wait(epoll, events, EVENTS, is_due ? 0 : -1);
         carry_out(events, count, true);
         carry_out(events, count, false);
     }
