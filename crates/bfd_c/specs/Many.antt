@@ -1,5 +1,5 @@
 -- Many packets handled by one call, and many outputs read by one call: each as by a call of its own, in their order.
-use Rattle.std.specs.Prelude.{ℕ, zero, suc, ◌≤◌, ◌+◌, ◌==◌, ◌&&◌, ◌||◌, Bool, List, [], ◌∷◌, length, drop, min, nat_lt, take, Option, None}
+use Rattle.std.specs.Prelude.{ℕ, zero, suc, ◌≤◌, ◌+◌, ◌==◌, ◌&&◌, ◌||◌, Bool, List, [], ◌∷◌, length, drop, min, nat_lt, take, Option, None, ⊤}
 use Rattle.std.specs.Prelude.{Some}
 use Rattle.std.specs.Prelude.{if◌then◌else◌}
 use Rattle.std.specs.List.{list_all}
@@ -20,6 +20,12 @@ line_of_arrived a = packet_line a.packet a.payload.now
 -- its payload is at most 52 bytes, which need no memory
 abbrev pub IsShort : Arrived → Type 0
 IsShort a = length a.payload.now ≤ 52
+
+-- the packet at this place is short, if there is one
+abbrev pub IsShortAt : ℕ → List Arrived → Type 0
+IsShortAt place [] = ⊤
+IsShortAt zero (a ∷ arrivals) = IsShort a
+IsShortAt (suc place) (a ∷ arrivals) = IsShortAt place arrivals
 
 -- the result of many packets: the engine, the places with the answers of those that were handled, how many these are, and the code
 pub record Handed : Type 0 where

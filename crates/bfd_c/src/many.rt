@@ -1,10 +1,9 @@
 //! Many in a call: packets in, and outputs out.
 ghost use Rattle.std.specs.Prelude.{◌≡◌, ◌≢◌, ◌≤◌, None, length, drop, min, take};
-ghost use Rattle.std.specs.List.{AllByRecursion};
 ghost use Rattle.bfd_c.specs.Engines.{asked, instance_after};
 ghost use Rattle.bfd_c.specs.Structs.{answer_for_c};
 ghost use Rattle.bfd_c.specs.Many as many;
-ghost use Rattle.bfd_c.specs.Many.{Handed, IsShort, handed, handed_to, line_of_arrived, many_by, many_read, outputs_in};
+ghost use Rattle.bfd_c.specs.Many.{Handed, IsShort, IsShortAt, handed, handed_to, line_of_arrived, many_by, many_read, outputs_in};
 
 use crate::asking::hear;
 use crate::engine::{CLOSED, DONE, END, Engine, RANGE, SIZE};
@@ -53,7 +52,7 @@ fn hand_in(
     ensures memory { result.1 ≡ 2 → record { engine = engine.new; answers = answers.new; packets = result.0; code = result.1 }
         ≡ handed result.0 arrivals.now answers.old engine.old }
     ensures most { result.0 ≤ length arrivals.now }
-    ensures short { AllByRecursion IsShort arrivals.now → result.1 ≢ 2 }
+    ensures short { IsShortAt result.0 arrivals.now → result.1 ≢ 2 }
 {
     let Some((arrived, others)) = arrivals.split_first() else {
         return (0, DONE);
@@ -110,7 +109,7 @@ fn are_answers_sized(places: &[Answered]) -> bool
 /// handle is closed; 3 where it's open and there are more than 64 or fewer places; 11 iff neither comes and the size of a packet
 /// or of its place isn't known, and then none was handled; 3 also iff none of these comes and the values of the packet behind
 /// those that were handled are outside their ranges, as `bfdd_receive` says; 2 only when out of memory for its payload, where no other
-/// comes, and never where each has up to 52 bytes. The packets that weren't handled have changed nothing, and their places stay.
+/// comes, and never where that has up to 52 bytes. The packets that weren't handled have changed nothing, and their places stay.
 #[unsafe(no_mangle)]
 pub extern "C" fn bfdd_packets(
     alloc: Global,
@@ -123,7 +122,7 @@ pub extern "C" fn bfdd_packets(
         ≡ handed_to (length arrivals.now) arrivals.now answers.old handle.old.kept.held }
     ensures memory { result ≡ 2 → (handle.new.kept.held, (answers.new, (handled.new, result)))
         ≡ handed_to handled.new arrivals.now answers.old handle.old.kept.held }
-    ensures short { AllByRecursion IsShort arrivals.now → result ≢ 2 }
+    ensures short { IsShortAt handled.new arrivals.now → result ≢ 2 }
 {
     *handled = 0;
     match handle.take(alloc) {
