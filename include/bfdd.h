@@ -151,8 +151,8 @@ uint32_t bfdd_open_session(bfdd_handle *handle, const bfdd_session *session);
  * are. The time is linear in the sessions; no event's is.
  *
  * One more session, with the variables of the start, at moment 0. An active session sends its first packet at the next tick, once the
- * clock is past its first interval, a second or the Desired Min TX Interval if that is greater. BFDD_CLOSED, BFDD_SIZE, BFDD_RANGE,
- * BFDD_FULL, BFDD_TAKEN_DISCR, BFDD_TAKEN_ADDRESSES, BFDD_MEMORY. */
+ * clock is past its first interval, a second or the Desired Min TX Interval if that is greater; of a head it is that interval.
+ * BFDD_CLOSED, BFDD_SIZE, BFDD_RANGE, BFDD_FULL, BFDD_TAKEN_DISCR, BFDD_TAKEN_ADDRESSES, BFDD_MEMORY. */
 uint32_t bfdd_add(bfdd_handle *handle, const bfdd_session *session);
 
 /* The session of this discriminator leaves, and sends its peer nothing. Disable it before, which makes it send AdminDown, and remove it
@@ -287,7 +287,8 @@ typedef struct {
     uint8_t peer_mult;    /* its Detect Mult, */
     uint8_t peer_diag;    /* its diagnostic, */
     uint8_t peer_demand;  /* and 1 where its demand mode is on */
-    uint64_t detect;      /* the Detection Time of asynchronous mode, also in demand mode */
+    uint64_t detect;      /* the Detection Time of asynchronous mode, also in demand mode; of an initiator its Detect Mult times its
+                             transmit interval; of a head 0 */
     uint64_t detect_end;  /* when the Detection Time in use ends, if one runs */
     uint64_t heard;       /* the moment of the last control packet that the session stored */
     uint64_t changed;     /* the moment of the last change of its state */
