@@ -38,7 +38,7 @@ class Relay:
         for target, packet in self.lossy.due():
             if target in peers:
                 peers[target].inbox.append(packet)
-            else:
+            elif target == "program":
                 self.sockets[packet[1]].sendto(packet[0], (LOCAL, SINGLE))
                 self.given += 1
 

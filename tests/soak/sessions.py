@@ -15,7 +15,7 @@ from memory import Memory
 HERE = Path(__file__).resolve().parent
 TOP = HERE.parent.parent
 COUNT, MS, SEED = 40, 100, 5880
-CHANGE = re.compile(r"session (\d+) to \S+ on a0: (\w+) to (\w+), diagnostic (\d+)")
+CHANGE = re.compile(r"session (\d+) to [0-9.]+(?: on \w+)?: (\w+) to (\w+), diagnostic (\d+)")
 SIZE = 24  # bytes of a control packet without authentication
 
 # What a host sends on a0, packet by packet, up to SIGTERM.
@@ -157,8 +157,8 @@ def judge(it):
     """One connection to FRR, each session Up after each Down: how often that was."""
     text, changes = it.log.read_text(), changes_of(it.log)
     connections = len(re.findall(r"connection \d+ to FRR is open", text))
-    if connections != 1 or " ended: " in text.partition("SIGTERM")[0] and "connection" in text.partition(" ended: ")[0][-40:]:
-        raise Failure(f"{connections} connections to FRR, or one ended: {[line for line in text.splitlines() if 'connection' in line][:5]}")
+    if connections != 1:
+        raise Failure(f"{connections} connections to FRR: {[line for line in text.splitlines() if 'connection' in line][:5]}")
     downs = sum(was == "Up" and state == "Down" for all_of in changes.values() for was, state, _ in all_of)
     ups = sum(state == "Up" for all_of in changes.values() for _, state, _ in all_of)
     if ups != downs + COUNT:
