@@ -140,10 +140,11 @@ def compare(name, got, wanted):
     """Each session's replay has what was seen."""
     if set(got) != set(wanted):
         raise Failure(f"{name}: the records are of the sessions {sorted(got)}, and these were seen: {sorted(wanted)}")
-    for discr in got:
-        if got[discr] != wanted[discr]:
-            at = next((at for at, (one, other) in enumerate(zip(got[discr], wanted[discr])) if one != other), "the end")
-            raise Failure(f"{name} of session {discr}: the replay's {len(got[discr])} differ from the {len(wanted[discr])} seen, first at {at}")
+    wrong = [discr for discr in got if got[discr] != wanted[discr]]
+    for discr in wrong[:1]:
+        at = next((at for at, (one, other) in enumerate(zip(got[discr], wanted[discr])) if one != other), "the end")
+        raise Failure(f"{name} of {len(wrong)} sessions differ; of session {discr} the replay has {len(got[discr])}, and {len(wanted[discr])} were "
+                      f"seen; the first difference is at {at}")
 
 
 def evidence(it, program, sent):
@@ -191,6 +192,7 @@ def soak(room, options):
         if it.ours.wait(30):
             raise Failure(f"the program ended with status {it.ours.returncode} at SIGTERM")
         time.sleep(1)
+        sniffer.terminate()
         print(f"dplane: the link: {network.counts()}\ndplane: {evidence(it, options.program, room / 'sent')}", flush=True)
         if not is_flat:
             raise Failure("its memory isn't flat")
