@@ -188,6 +188,7 @@ def soak(room, options):
         start(it)
         is_flat, memory = run_for(it, 60 * options.minutes)
         print(f"dplane: {memory}\ndplane: {judge(it)}", flush=True)
+        it.processes["bfdd"].send_signal(signal.SIGSTOP)  # without a data plane it would send a packet for each session itself
         it.ours.terminate()
         if it.ours.wait(30):
             raise Failure(f"the program ended with status {it.ours.returncode} at SIGTERM")
