@@ -143,15 +143,16 @@ def compare(name, got, wanted):
     wrong = [discr for discr in got if got[discr] != wanted[discr]]
     for discr in wrong[:1]:
         at = next((at for at, (one, other) in enumerate(zip(got[discr], wanted[discr])) if one != other), "the end")
-        raise Failure(f"{name} of {len(wrong)} sessions differ; of session {discr} the replay has {len(got[discr])}, and {len(wanted[discr])} were "
-                      f"seen; the first difference is at {at}")
+        raise Failure(f"{name} of {len(wrong)} sessions differ; of session {discr} the replay has {len(got[discr])}, and "
+                      f"{len(wanted[discr])} were seen; the first difference is at {at}")
 
 
 def evidence(it, program, sent):
     packets, changes = replays(program, it.room / "records")
     compare("changes", changes, dict(changes_of(it.log)))
     compare("bytes sent", packets, sent_by(sent))
-    return f"{sum(map(len, packets.values())) // SIZE} packets and {sum(map(len, changes.values()))} changes of {len(changes)} records replayed"
+    sizes = sum(map(len, packets.values())) // SIZE, sum(map(len, changes.values()))
+    return f"{sizes[0]} packets and {sizes[1]} changes, by the replays of the records of {len(changes)} sessions"
 
 
 def judge(it):
