@@ -18,7 +18,7 @@ def reserved(pid):
 
 
 class Memory(threading.Thread):
-    """Looks at a process each second until it ends, or until the second `stop`."""
+    """Looks at a process each second, until it ends or `verdict` is called."""
 
     def __init__(self, pid, measure=resident):
         super().__init__(daemon=True)
