@@ -198,7 +198,8 @@ static void read_command(void) {
 /* One more session, by the command that waits. It sends its first packet at the next tick, once the clock is past its first interval. */
 static uint32_t add_session(bfdd_handle *engine) {
     bfdd_session session = {.size = sizeof session, .kind = BFDD_SINGLE_HOP, .discr = command.discr, .iface = (uint32_t)command.value,
-                            .local = {4}, .remote = {4}, .active = 1, .tx = 100000, .rx = 100000, .mult = 3, .seed = command.discr};
+                            .local.family = 4, .remote.family = 4, .active = 1, .tx = 100000, .rx = 100000, .mult = 3,
+                            .seed = command.discr};
     memcpy(session.local.bytes, &local, 4), memcpy(session.remote.bytes, &command.remote, 4);
     return bfdd_add(engine, &session);
 }
