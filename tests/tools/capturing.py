@@ -126,6 +126,17 @@ def capture_makes_commands_of_what_the_local_side_changed(place):
 
 
 @test("dpkt")
+def capture_enables_before_the_packet_that_was_taken_up(place):
+    """A passive FRR that is enabled sends nothing until it has heard its peer: its Init says that it was enabled before that."""
+    for heard, enabled in ((590000, 590000), (450000, 600000)):
+        said = [*captures.HANDSHAKE, (heard, False, "state=Down my=7 your=1"), (500000, True, "state=AdminDown diag=7 my=1 your=7"),
+                (600000, True, "state=Init my=1 your=7")]
+        text, _ = captured(place, pcap([(moment, framed(ETHERNET, ip)) for moment, ip in handshake(said=sorted(said))]))
+        same([line for line in text.split("\n") if "able" in line], ["cmd 500000 1 disable", f"cmd {enabled} 1 enable"], f"heard at {heard}")
+        same(" Down Init " in place.replay(text), True, "it enters Init") if heard == enabled else None
+
+
+@test("dpkt")
 def capture_makes_initiators_and_reflectors(place):
     def asked(moment, words, src=OURS, dst=PEER):
         return moment, framed(ETHERNET, ip_packet(src, dst, 7784, captures.payload("D rx=0 " + words)))
