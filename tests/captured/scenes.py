@@ -128,7 +128,7 @@ def frr_and_bird(lab, ends, mode="active", bird_mode="active"):
     lab.bird_changes("b", tx=350, **bird)
     waits(3)
     lab.frr_changes("a", peer, "shutdown")
-    waits(4)
+    waits(3)  # (FRR still has its peer's discriminator after a Detection Time without a packet, which RFC 5880 section 6.8.1 forbids)
     lab.frr_changes("a", peer, "no shutdown")
     waits(6)
     b.ends()
