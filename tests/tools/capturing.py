@@ -126,6 +126,28 @@ def capture_makes_commands_of_what_the_local_side_changed(place):
 
 
 @test("dpkt")
+def capture_puts_intervals_behind_the_final_of_their_poll(place):
+    """A replay's own poll of its first intervals ends by that F, and would refuse a command before it."""
+    said = [*captures.HANDSHAKE, (1600000, True, "state=Up my=1 your=7 tx=500000 rx=200000 P"), (1601000, False, "state=Up my=7 your=1 F"),
+            (2900000, True, "state=Up my=1 your=7 tx=500000 rx=200000 P"), (2901000, False, "state=Up my=7 your=1 F")]
+    text, _ = captured(place, pcap([(moment, framed(ETHERNET, ip)) for moment, ip in handshake(said=said)]))
+    same(sorted(line for line in text.split("\n") if line.startswith("cmd")), ["cmd 1601001 1 tx 500000", "cmd 2901001 1 rx 200000"],
+         "commands")
+    same(" refuse " in place.replay(text), False, "refused")
+
+
+@test("dpkt")
+def capture_enables_before_the_packet_that_was_taken_up(place):
+    """A passive FRR that is enabled sends nothing until it has heard its peer: its Init says that it was enabled before that."""
+    for heard, enabled in ((590000, 590000), (450000, 600000)):
+        said = [*captures.HANDSHAKE, (heard, False, "state=Down my=7 your=1"), (500000, True, "state=AdminDown diag=7 my=1 your=7"),
+                (600000, True, "state=Init my=1 your=7")]
+        text, _ = captured(place, pcap([(moment, framed(ETHERNET, ip)) for moment, ip in handshake(said=sorted(said))]))
+        same([line for line in text.split("\n") if "able" in line], ["cmd 500000 1 disable", f"cmd {enabled} 1 enable"],
+             f"heard at {heard}")
+
+
+@test("dpkt")
 def capture_makes_initiators_and_reflectors(place):
     def asked(moment, words, src=OURS, dst=PEER):
         return moment, framed(ETHERNET, ip_packet(src, dst, 7784, captures.payload("D rx=0 " + words)))
