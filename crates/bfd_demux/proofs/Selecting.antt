@@ -14,8 +14,6 @@ use Rattle.bfd_packet.specs.declared.control.Control.{Control}
 use Rattle.bfd_packet.specs.declared.discard.Test.{Test}
 use Rattle.bfd_packet.specs.Layout.{fields_of, word_at}
 use Rattle.bfd_packet.specs.States.{is_init_or_up}
-use Rattle.std.specs.Result.{result_err}
-use Rattle.bfd_demux.specs.declared.target.Target.{Target}
 use Rattle.bfd_demux.specs.declared.target.Target.TheVariants.{Session, Reflector, Echo}
 
 -- tests that agree name the same row

@@ -1,5 +1,5 @@
 -- An arrival resolves to what it is for, or is discarded by the first test that it fails.
-use Rattle.bfd_session.proofs.Common.{◌≡◌, List, None, Some, Option, Ok, Err, Result, refl, sym, ap, Arrival, Test, Row}
+use Rattle.bfd_session.proofs.Common.{◌≡◌, List, None, Some, Ok, Err, Result, sym, ap, Arrival, Test, Row}
 use Rattle.bfd_session.proofs.Common.{first_header_failing, first_table_failing, target_of, table_of, Reaches, Reflector, SessionConfig}
 use Rattle.bfd_session.proofs.Common.{Ascends}
 use Rattle.std.proofs.Common.{ap₂}
@@ -8,7 +8,6 @@ use Rattle.std.specs.Result.{result_err}
 use Rattle.bfd_demux.specs.declared.target.Target.{Target}
 use Rattle.bfd_sbfd.specs.Reflect.{Ascends as PoolAscends}
 use Rattle.bfd_session.specs.Arrivals.{Discarded, coming_to, coming_by, comes_to}
-use Rattle.bfd_session.specs.Tables.{Members, IsTableOf}
 use Rattle.bfd_session.proofs.Reach.{reaches}
 use Rattle.bfd_session.proofs.table.Table.screen.Goals as goal
 
