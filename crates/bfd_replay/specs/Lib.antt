@@ -6,7 +6,6 @@ pub mod Inside
 pub mod Cutting
 pub mod Written
 pub mod Working
-pub mod Standin
 pub mod Turning
 pub mod PendingLines
 pub mod Jobs

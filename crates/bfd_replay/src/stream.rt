@@ -16,11 +16,9 @@
 mod opening;
 mod pending;
 mod reporting;
-mod standin;
 mod ticking;
 mod turning;
 
 pub use opening::opened;
 pub(crate) use reporting::report_to;
-pub(crate) use standin::{reflected_at, screened};
 pub use turning::happen;

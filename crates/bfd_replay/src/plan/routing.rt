@@ -8,7 +8,6 @@ ghost use Rattle.bfd_script.specs.Doing.{asking};
 ghost use Rattle.bfd_script.specs.declared.line.entries.Line.TheVariants.{Rx};
 ghost use Rattle.bfd_replay.specs.Planned.{route_is, happening, happening_by, IsMet};
 
-use crate::stream::{reflected_at, screened};
 use bfd_demux::Target;
 use bfd_num::Moment;
 use bfd_packet::Arrival;
@@ -33,7 +32,7 @@ fn arrived(table: &Table, moment: Moment, arrival: Arrival) -> Route
     ensures route { route_is result ≡ happening table.now.configs table.now.pool (Rx moment arrival) }
     ensures met { IsMet table.now.configs (route_is result) }
 {
-    match screened(table, &arrival) {
+    match table.screen_uncounted(&arrival) {
         Ok(Target::Session(place)) => Route::Happens(ShardEvent::Own {
             place,
             moment,
@@ -44,7 +43,7 @@ fn arrived(table: &Table, moment: Moment, arrival: Arrival) -> Route
             moment,
             event: Event::Returned(sequence),
         }),
-        Ok(Target::Reflector(place)) => match reflected_at(table, place, &arrival) {
+        Ok(Target::Reflector(place)) => match table.reflected(place, &arrival) {
             Ok(out) => Route::Answers(out),
             Err(test) => Route::Rests(Answer::Dropped(test)),
         },

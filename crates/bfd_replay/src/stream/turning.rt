@@ -18,7 +18,6 @@ ghost use Rattle.bfd_replay.specs.Happenings.{Among};
 ghost use Rattle.bfd_replay.specs.Planned.{happening, happening_by, reflecting};
 ghost use Rattle.bfd_replay.specs.Turning.{Gave, HasKept, IsRefusal, Went, brought};
 
-use crate::stream::standin::{reflected_at, screened};
 use bfd_demux::Target;
 use bfd_edge::Gate;
 use bfd_engine::{Engine, EngineFault, EnginePass};
@@ -194,7 +193,7 @@ fn reflected(table: &Table, place: u32, arrival: &Arrival, outs: &mut Outs) -> A
     ensures room { outs.new.room ≡ outs.old.room }
 {
     outs.clear();
-    match reflected_at(table, place, arrival) {
+    match table.reflected(place, arrival) {
         Ok(out) => {
             outs.push(out);
             Answer::Handled
@@ -273,7 +272,7 @@ pub fn happen<W: Timers, R: Wait, G: Gate, L: Ledger>(
     ensures room { outs.new.room ≡ outs.old.room }
 {
     match line {
-        Line::Rx { moment, arrival } => match screened(engine.table(), &arrival) {
+        Line::Rx { moment, arrival } => match engine.table().screen_uncounted(&arrival) {
             Ok(Target::Session(place)) => {
                 let event = Event::Packet(arrival);
                 own(
