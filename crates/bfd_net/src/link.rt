@@ -25,6 +25,13 @@ const MOST_QUIETS: u32 = 500;
 /// How often a receive that a signal interrupts is tried.
 const TRIES: u32 = 16;
 
+/// A socket, and the port and the address that it is bound to: none where it only sends.
+#[derive(Drop)]
+pub(crate) struct Bound {
+    pub(crate) socket: UdpSocket,
+    pub(crate) hears: Option<(Port, u32)>,
+}
+
 /// A link over a UDP socket, which [`crate::UdpPorts`] opens. Contracts see it as the record `UdpHeld`.
 ///
 /// It is Quiet where no packet came for 20 milliseconds, and Ended after 500 Quiets in a row. A link that only sends is Ended
@@ -58,23 +65,17 @@ impl<R: Clock> Model for UdpLink<R> {
 }
 
 impl<R: Clock> UdpLink<R> {
-    /// The link of this number over this socket, which hears this port and address.
-    pub(crate) fn over(
-        number: u32,
-        socket: UdpSocket,
-        clock: SinceMade<R>,
-        alloc: Global,
-        hears: Option<(Port, u32)>,
-    ) -> Self
+    /// The link of this number over this socket, which hears the socket's port and address.
+    pub(crate) fn over(number: u32, bound: Bound, clock: SinceMade<R>, alloc: Global) -> Self
         ensures { result
-            ≡ record { number = number; made = clock.made; hears = hears; quiets = 0; counts = no_counts } }
+            ≡ record { number = number; made = clock.made; hears = bound.hears; quiets = 0; counts = no_counts } }
     {
         UdpLink {
             number,
-            socket,
+            socket: bound.socket,
             clock,
             alloc,
-            hears,
+            hears: bound.hears,
             quiets: 0,
             counts: LinkCounts::new(),
         }

@@ -7,7 +7,7 @@ ghost use Rattle.bfd_net.specs.Sockets.{link_observed, ports_observed_of};
 
 use crate::clock::SinceMade;
 use crate::hearing::{address_of_link, port_of_link, udp_port};
-use crate::link::UdpLink;
+use crate::link::{Bound, UdpLink};
 use bfd_edge::{Fault, LinkCounts, Places, Ports};
 use bfd_packet::Port;
 use std::alloc::Global;
@@ -59,12 +59,16 @@ impl<R: Net + Clock + Copy> UdpPorts<R> {
     }
 }
 
-/// A socket on this address and port, which waits for packets for 20 milliseconds and sends with TTL 255 (RFC 5881 section 5).
-fn bound(net: &impl Net, place: SocketAddrV4) -> io::Result<UdpSocket> {
+/// A socket on the address and port of what it hears, which waits for packets for 20 milliseconds and sends with TTL 255 (RFC 5881
+/// section 5).
+fn bound(net: &impl Net, hears: Option<(Port, u32)>, place: SocketAddrV4) -> io::Result<Bound>
+    requires { IsSocketPlace hears place }
+    ensures { IfOk result (λ bound. bound.hears ≡ hears) }
+{
     let socket = UdpSocket::bind(net, SocketAddr::V4(place))?;
     socket.set_read_timeout(Some(Duration::from_millis(WAIT)))?;
     socket.set_ttl(255)?;
-    Ok(socket)
+    Ok(Bound { socket, hears })
 }
 
 /// The port and the address that the link of this number hears. Link 0 only sends.
@@ -104,8 +108,8 @@ impl<R: Net + Clock + Copy> UdpPorts<R> {
             return None;
         }
         let hears = hearing(number);
-        let socket = bound(&self.rt, place_of(hears)).ok()?;
-        Some(UdpLink::over(number, socket, self.clock, self.alloc, hears))
+        let bound = bound(&self.rt, hears, place_of(hears)).ok()?;
+        Some(UdpLink::over(number, bound, self.clock, self.alloc))
     }
 }
 

@@ -159,6 +159,7 @@ impl<W: Timers> ShardState<W> {
     /// of the timers; a tick changes every session, and leaves nothing that is due by the last tick. The outputs are
     /// appended, at a tick by ascending place, and the answer is the session's, or `Ticked`. `Full` comes if and only if the
     /// journal has as many entries as its limit, which it reports; then all is as before. Allocates no memory.
+    #[inline(always)]
     pub fn apply<L: Ledger>(
         &mut self,
         caller: u32,
@@ -195,8 +196,9 @@ impl<W: Timers> ShardState<W> {
             return Err(Full(self.limit));
         }
         expiry_laws();
-        let answer = self.group.apply(&event, outs, steps);
-        self.journal.push_reserved(Entry { caller, event });
+        let entry = Entry { caller, event };
+        let answer = self.group.apply(&entry.event, outs, steps);
+        self.journal.push_reserved(entry);
         Ok(answer)
     }
 
