@@ -14,6 +14,7 @@ mod FieldsCommon
 pub mod Ascii
 pub mod Decimal
 pub mod FirstLine
+pub mod Continuing
 pub mod SideBySide
 pub mod Kept
 pub mod Cuts

@@ -1,4 +1,5 @@
 pub mod Reading
+pub mod Continued
 pub mod Report
 pub mod Doing
 pub mod Rows

@@ -1,6 +1,6 @@
 //! The lines and the fields of a packet file.
 //!
-//! What a text is cut into, and what one field says: [`first_line`] cuts at LF, [`line_text`] tests a line's bytes and its
+//! What a text is cut into, and what one field says: [`whole_line`] cuts at LF, [`line_text`] tests a line's bytes and its
 //! length, [`split_fields`] cuts it at spaces; a field is a [`number`], an [`address`] or hexadecimal digits, [`bytes_read`]
 //! and [`payload_read`]. Each answers what `specs/Fields.antt` and `specs/Values.antt` read there, or the [`LineFault`] that
 //! comes first; a function that allocates answers a [`ReadFault`], by which memory may have run out too. Bytes are written by
@@ -16,5 +16,5 @@ mod values;
 
 pub use digits::{BYTES, digits_of_run};
 pub use fault::{BadLine, LineFault, ReadFault, ScriptFault};
-pub use fields::{first_line, line_text, number, split_fields};
+pub use fields::{line_text, number, split_fields, whole_line};
 pub use values::{address, bytes_read, hex_text, payload_read};
