@@ -13,6 +13,7 @@ mod digits;
 mod fault;
 mod fields;
 mod values;
+mod window;
 
 pub use digits::{BYTES, digits_of_run};
 pub use fault::{BadLine, LineFault, ReadFault, ScriptFault};
