@@ -10,8 +10,9 @@ use Rattle.bfd_script.proofs.Decimal.{own}
 use Rattle.bfd_script.specs.Windows.{HasNumber, IsField, IsVisible, Reads}
 
 -- a byte, and what stands behind it
-pub byte_at : (text : List ℕ) (at : ℕ) {byte : ℕ} → at < length text → slice_index text at ≡ byte → drop at text ≡ byte ∷ drop (at + 1) text
-byte_at text at within e = drop_more text at 0 within ∙ ap (λ byte. byte ∷ drop (at + 1) text) e
+pub byte_at : (text : List ℕ) (at to : ℕ) {byte : ℕ} → to ≡ at + 1 → at < length text → slice_index text at ≡ byte
+    → drop at text ≡ byte ∷ drop to text
+byte_at text at to next within e = rw next (drop_more text at 0 within ∙ ap (λ byte. byte ∷ drop (at + 1) text) e)
 
 -- ---- a number
 
@@ -27,7 +28,7 @@ pub number_one : (text : List ℕ) (from : ℕ) {d : ℕ} → from < length text
 number_one text from {d} within few e = record {
   digits = (48 + d) ∷ [];
   number = rw (digit few) refl;
-  here = byte_at text from within e;
+  here = byte_at text from (from + 1) refl within e;
   long = omega arith;
   value = rw (value few) (omega arith);
 }
@@ -45,7 +46,7 @@ parts_step true true true false h = (refl, refl, λ e. refl)
 parts_step true true false zero h = (refl, refl, λ e. cc)
 parts_step all some more zero h = cc
 
-number_parts : (digits : List ℕ) → is_number digits ≡ true → (list_all is_ascii_digit digits ≡ true)
+pub number_parts : (digits : List ℕ) → is_number digits ≡ true → (list_all is_ascii_digit digits ≡ true)
     × (nat_lt 0 (length digits) ≡ true) × (nat_lt 1 (length digits) ≡ true → (slice_index digits 0 == 48) ≡ false)
 number_parts digits is =
     parts_step (list_all is_ascii_digit digits) (nat_lt 0 (length digits)) (nat_lt 1 (length digits)) (slice_index digits 0 == 48) is
@@ -68,13 +69,13 @@ number_push (a ∷ digits) byte is some e =
     (all_push (a ∷ digits) byte (number_parts (a ∷ digits) is).0 e) (grind (arith, nat_tests)) (led a digits is some)
 
 -- one more digit behind a number above zero
-pub number_more : {text : List ℕ} {from at n : ℕ} {d : ℕ} → HasNumber text from at n → 0 < n → at < length text → d ≤ 9
-    → slice_index text at ≡ 48 + d → HasNumber text from (at + 1) (n * 10 + d)
-number_more {text} {from} {at} {n} {d} h some within few e = record {
+pub number_more : {text : List ℕ} {from at n d : ℕ} (to : ℕ) → to ≡ at + 1 → HasNumber text from at n → 0 < n → at < length text → d ≤ 9
+    → slice_index text at ≡ 48 + d → HasNumber text from to (n * 10 + d)
+number_more {text} {from} {at} {n} {d} to next h some within few e = record {
   digits = h.digits ++ ((48 + d) ∷ []);
   number = number_push h.digits (48 + d) h.number (omega (arith, some, h.value)) (digit few);
-  here = h.here ∙ ap (λ rest. h.digits ++ rest) (byte_at text at within e) ∙ sym (append_assoc h.digits ((48 + d) ∷ []) (drop (at + 1) text));
-  long = omega (arith, h.long, length-append h.digits ((48 + d) ∷ []));
+  here = h.here ∙ ap (λ rest. h.digits ++ rest) (byte_at text at to next within e) ∙ sym (append_assoc h.digits ((48 + d) ∷ []) (drop to text));
+  long = omega (arith, next, h.long, length-append h.digits ((48 + d) ∷ []));
   value = digits_value_push 10 h.digits (48 + d) ∙ rw (h.value, value few) refl;
 }
 
@@ -102,12 +103,12 @@ number_read {least} {most} {n} digits is e low high =
     rw (is, e, above, below) refl
 
 -- a number of a range before a separator
-pub number_ends : {text : List ℕ} {from at n least most separator : ℕ} → HasNumber text from at n → at < length text
-    → slice_index text at ≡ separator → least ≤ n → n ≤ most → Reads (number_in least most) separator text from (at + 1) n
-number_ends {text} {from} {at} h within e low high = record {
+pub number_ends : {text : List ℕ} {from at n least most separator : ℕ} (to : ℕ) → to ≡ at + 1 → HasNumber text from at n → at < length text
+    → slice_index text at ≡ separator → least ≤ n → n ≤ most → Reads (number_in least most) separator text from to n
+number_ends {text} {from} {at} to next h within e low high = record {
   field = h.digits;
   visible = digits_seen h.digits (number_parts h.digits h.number).0;
-  here = h.here ∙ ap (λ rest. h.digits ++ rest) (byte_at text at within e);
-  long = omega (arith, h.long);
+  here = h.here ∙ ap (λ rest. h.digits ++ rest) (byte_at text at to next within e);
+  long = omega (arith, next, h.long);
   says = number_read h.digits h.number h.value low high;
 }

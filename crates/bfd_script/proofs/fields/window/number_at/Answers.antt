@@ -1,4 +1,4 @@
-use Rattle.bfd_script.proofs.FieldsCommon.{arith, rules, nat_tests, inl, inr}
+use Rattle.bfd_script.proofs.FieldsCommon.{arith, inl, inr, refl, ◌+◌}
 use Rattle.bfd_script.proofs.Windowed.{number_more, number_one, number_small}
 use Rattle.bfd_script.proofs.fields.window.number_at.Goals as goal
 
@@ -32,7 +32,7 @@ pub loop-next-preserved : goal.loop-next-preserved
 loop-next-preserved c =
     let some = (c.loop-next.invariant.3 c.loop-next-test.true).0 in
     (
-      number_more c.loop-next.invariant.0 some (omega (arith, c.told-text, c.requires.within, c.loop-next.invariant.1)) c.loop-next-test.true
+      number_more (c.loop-next.at + 1) refl c.loop-next.invariant.0 some (omega (arith, c.told-text, c.requires.within, c.loop-next.invariant.1)) c.loop-next-test.true
           (c.loop-next.invariant.3 c.loop-next-test.true).1,
       omega (arith, c.if-at-from.false),
       omega (arith, c.loop-next.invariant.2),

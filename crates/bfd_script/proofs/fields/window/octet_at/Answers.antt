@@ -1,14 +1,22 @@
-use Rattle.std.proofs.Common.{rules, ◌≡◌, ◌+◌, ◌<◌, ◌≤◌, ◌^◌, IfSome, length, slice_index, ℕ, ◌-◌, ◌*◌, ◌/◌, ◌%◌, Bool, true, false, nat_eq, nat_lt, List, [], ◌∷◌, ◌++◌, slice_index_or, slice_set, bit_and, bit_or, Fits, w8, w32, w64, Bor, MutBor}
-use Rattle.bfd_packet.specs.declared.arrival.Addr.TheVariants.{V4}
-use Rattle.bfd_script.specs.Fields.{number_in}
-use Rattle.bfd_script.specs.Values.{address_of}
-use Rattle.bfd_script.specs.Windows.{HasNumber, Reads}
+use Rattle.bfd_script.proofs.FieldsCommon.{arith, ◌+◌}
+use Rattle.bfd_script.proofs.Windowed.{number_ends, number_more, number_one}
 use Rattle.bfd_script.proofs.fields.window.octet_at.Goals as goal
 
--- src/fields/window.rt:130:9
 pub returns-then-text-at-2-clause-says : goal.returns-then-text-at-2-clause-says
-returns-then-text-at-2-clause-says c = ?
+returns-then-text-at-2-clause-says c some =
+    let one = number_one c.args.text.now c.args.at (omega (arith, c.told-text, c.requires)) c.if-a-gt9.false
+        (c.figure-a.ensures c.if-a-gt9.false) in
+    let two = number_more (c.args.at + 2) (omega arith) one (omega (arith, c.if-a-eq0.false)) (omega (arith, c.told-text, c.requires)) c.if-b-gt9.false
+        (c.figure-b.ensures c.if-b-gt9.false) in
+    number_ends (c.args.at + 3) (omega arith) two (omega (arith, c.told-text, c.requires)) c.if-text-at-2.true (omega arith)
+    (omega (arith, c.if-a-gt9.false, c.if-b-gt9.false))
 
--- src/fields/window.rt:111:1
 pub returns-clause-says : goal.returns-clause-says
-returns-clause-says c = ?
+returns-clause-says c some =
+    let one = number_one c.args.text.now c.args.at (omega (arith, c.told-text, c.requires)) c.if-a-gt9.false
+        (c.figure-a.ensures c.if-a-gt9.false) in
+    let two = number_more (c.args.at + 2) (omega arith) one (omega (arith, c.if-a-eq0.false)) (omega (arith, c.told-text, c.requires)) c.if-b-gt9.false
+        (c.figure-b.ensures c.if-b-gt9.false) in
+    let three = number_more (c.args.at + 3) (omega arith) two (omega (arith, c.if-a-eq0.false)) (omega (arith, c.told-text, c.requires)) c.if-c-gt9.false
+        (c.figure-c.ensures c.if-c-gt9.false) in
+    number_ends (c.args.at + 4) (omega arith) three (omega (arith, c.told-text, c.requires)) c.if-text-at-3.false (omega arith) c.if-n-gt255.false

@@ -1,10 +1,11 @@
-use Rattle.std.proofs.Common.{rules, ◌≡◌, ◌+◌, ◌<◌, ◌≤◌, ◌^◌, IfSome, length, slice_index, ℕ, ◌-◌, ◌*◌, ◌/◌, ◌%◌, Bool, true, false, nat_eq, nat_lt, List, [], ◌∷◌, ◌++◌, slice_index_or, slice_set, bit_and, bit_or, Fits, w8, w32, w64, Bor, MutBor}
-use Rattle.bfd_packet.specs.declared.arrival.Addr.TheVariants.{V4}
-use Rattle.bfd_script.specs.Fields.{number_in}
-use Rattle.bfd_script.specs.Values.{address_of}
-use Rattle.bfd_script.specs.Windows.{HasNumber, Reads}
+use Rattle.bfd_script.proofs.FieldsCommon.{arith}
+use Rattle.bfd_script.proofs.Quads.{quad_ends}
 use Rattle.bfd_script.proofs.fields.window.quad_at.Goals as goal
 
--- src/fields/window.rt:141:1
 pub returns-clause-says : goal.returns-clause-says
-returns-clause-says c = ?
+returns-clause-says c some = quad_ends
+    (c.octet_at-a.ensures.says (omega (arith, c.if-second-eq0.false)))
+    (c.octet_at-b.ensures.says (omega (arith, c.if-third-eq0.false)))
+    (c.octet_at-c.ensures.says (omega (arith, c.if-fourth-eq0.false)))
+    (c.octet_at-d.ensures.says some)
+    (omega (arith, c.octet_at-a.ensures.near, c.octet_at-b.ensures.near, c.octet_at-c.ensures.near, c.octet_at-d.ensures.near))
