@@ -23,3 +23,8 @@ pub mod Marks
 pub mod Octets
 pub mod Decoding
 pub mod Nibbles
+pub mod Visible
+pub mod Splitting
+pub mod Windowed
+pub mod Quads
+pub mod WindowDigits

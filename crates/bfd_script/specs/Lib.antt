@@ -4,6 +4,7 @@ pub mod Report
 pub mod Doing
 pub mod Rows
 pub mod Sound
+pub mod Windows
 pub mod Tables
 pub mod Complaints
 pub mod Fields

@@ -7,14 +7,17 @@
 //! [`digits_of_run`] and [`hex_text`], as `specs/Spelling.antt` says.
 //!
 //! Layers, lowest first: `fault` (what can be wrong), `fields` (lines, fields and numbers), `digits` (hexadecimal digits, side
-//! by side), `values` (addresses and bytes).
+//! by side), `values` (addresses and bytes), `window` and `window_digits` (the same at a place of a text's first bytes).
 
 mod digits;
 mod fault;
 mod fields;
 mod values;
+mod window;
+mod window_digits;
 
 pub use digits::{BYTES, digits_of_run};
 pub use fault::{BadLine, LineFault, ReadFault, ScriptFault};
 pub use fields::{line_text, number, split_fields, whole_line};
 pub use values::{address, bytes_read, hex_text, payload_read};
+pub(crate) use window_digits::{ROOM, payload_at};
