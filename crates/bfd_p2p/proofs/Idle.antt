@@ -50,6 +50,11 @@ renewed_idle : (eff : ℕ) (before : Vars) {v : Vars} → IsRenewed v → adv_tx
 unfolding renewed
 renewed_idle eff before {v} h adv rx demand = cc (poll_stands before v adv rx, used_stands h, demand_stands eff before v demand)
 
+-- a rule that changes nothing renews nothing
+pub renews_none : (eff : ℕ) (s : Course) → IsRenewed s.vars → renews eff s.vars s ≡ s
+unfolding renews
+renews_none eff s h = ap (λ (v : Vars). record s { vars = v }) (renewed_idle eff s.vars h refl refl refl)
+
 -- unchanged variables are not reported
 changes_none : (discr : ℕ) (s : Course) → changes discr s.vars s ≡ s
 unfolding changes

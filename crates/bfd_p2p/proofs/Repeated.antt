@@ -1,5 +1,5 @@
 -- A packet with nothing new for a session in Up changes nothing but the peer's state and when it was last heard.
-use Rattle.std.proofs.Common.{◌≡◌, ℕ, Bool, true, false, refl, sym, subst, ◌∙◌, ap, List, None, Some, Ok, IsSome, find}
+use Rattle.std.proofs.Common.{◌≡◌, ℕ, Bool, true, false, refl, sym, subst, ◌∙◌, ap, if◌then◌else◌, List, None, Some, Ok, IsSome, find}
 use Rattle.bfd_num.specs.Numbers.{floor_tick}
 use Rattle.bfd_num.specs.Due.{has_come}
 use Rattle.bfd_packet.specs.declared.control.Control.{Control}
@@ -15,13 +15,13 @@ use Rattle.bfd_rules.specs.Quantities.{deadline, seq_deadline, may_send}
 use Rattle.bfd_rules.specs.EventFrame.{Course, course, begins, stamped, redrawn}
 use Rattle.bfd_rules.specs.Sound.{IsRenewed, IsSteady, IsSound}
 use Rattle.bfd_rules.proofs.Still.{no_news, drawn_stands}
-use Rattle.bfd_p2p.specs.Frame.{moves}
+use Rattle.bfd_p2p.specs.Frame.{moves, renews}
 use Rattle.bfd_p2p.specs.Settle.{settle, detection, sequence, periodic}
 use Rattle.bfd_p2p.specs.Receive as receive
 use Rattle.bfd_p2p.specs.Receive.{session_fails, session_tests}
 use Rattle.bfd_p2p.specs.Finish.{finish, extra}
 use Rattle.bfd_p2p.specs.Again.{IsAgain, heard_again}
-use Rattle.bfd_p2p.proofs.Idle.{heard_from, moves_none, renews_fields, renews_sequence}
+use Rattle.bfd_p2p.proofs.Idle.{heard_from, moves_none, renews_fields, renews_none, renews_sequence}
 
 -- settling with nothing due
 pub settle_rests : (c : Config) (limit eff : ℕ) (s : Course) → has_come limit (deadline s.vars) ≡ false
@@ -54,7 +54,7 @@ pub record IsCalm (c : Config) (v : Vars) : Type 0 where
 pub record IsRepeated (eff : ℕ) (packet : Control) (v : Vars) : Type 0 where
   pub up : packet.state ≡ Up
   pub poll : packet.poll ≡ false
-  pub fin : packet.fin ≡ false
+  pub fin : packet.fin ≡ true → receive.poll_ended v.poll ≡ v.poll
   pub known : heard_from eff packet v ≡ heard_up eff v
 
 keeps_nothing : (c : Config) (eff : ℕ) (v : Vars) (m : Mark) (os : List Out) → c.keys ≡ None → IsRenewed v
@@ -67,12 +67,27 @@ keeps_moment : (eff : ℕ) (packet : Control) (v : Vars) (m : Mark) (os : List O
 unfolding receive.keeps_fields
 keeps_moment eff packet v m os h demand known = sym (renews_fields eff packet v m os h demand) ∙ ap (λ (w : Vars). course w m os) known
 
+if_same : {X : Type 0} (b : Bool) {x y : X} → (b ≡ true → x ≡ y) → (if b then x else y) ≡ y
+if_same true same = same refl
+if_same false same = refl
+
+-- an F that ends no Poll Sequence
+ends_nothing : (eff : ℕ) (packet : Control) (v : Vars) (m : Mark) (os : List Out) → IsRenewed v
+    → (packet.fin ≡ true → receive.poll_ended v.poll ≡ v.poll) → receive.ends_poll eff packet (course v m os) ≡ course v m os
+unfolding receive.ends_poll
+ends_nothing eff packet v m os h stands =
+    if_same packet.fin
+    (λ fin. ap (λ p. renews eff (record v { poll = p }) (course v m os)) (stands fin) ∙ renews_none eff (course v m os) h)
+
 kept_again : (c : Config) (eff : ℕ) (packet : Control) (v : Vars) (m : Mark) (os : List Out) → c.keys ≡ None → IsRenewed v
     → v.demand ≡ false
     → IsRepeated eff packet v → receive.kept c eff packet v.seq (course v m os) ≡ course (heard_up eff v) m os
-unfolding receive.kept receive.ends_poll
+unfolding receive.kept
 kept_again c eff packet v m os plain h demand repeated =
-    rw (keeps_nothing c eff v m os plain h, keeps_moment eff packet v m os h demand repeated.known, repeated.fin) refl
+    let still : IsRenewed (heard_up eff v) =
+    record { settled_tx = h.settled_tx; tx_at_most = h.tx_at_most; settled_rx = h.settled_rx; rx_at_least = h.rx_at_least } in
+    rw (keeps_nothing c eff v m os plain h, keeps_moment eff packet v m os h demand repeated.known)
+    (ends_nothing eff packet (heard_up eff v) m os still repeated.fin)
 
 up_stands : (own received : State) (v : Vars) → own ≡ Up → received ≡ Up → receive.machine own received v ≡ v
 up_stands own received v up received_up = rw (up, received_up) refl
@@ -157,7 +172,7 @@ is_again c eff ttl raw v steady h calm passes repeated late seq_late due_later =
 pub announces_nothing : (c : Config) (eff ttl : ℕ) (raw : List ℕ) (packet : Control) (v : Vars) → packet ≡ fields_of raw → IsSteady c v
     → v.state ≡ Up → c.keys ≡ None → v.demand ≡ false → v.remote_demand ≡ false → v.echo_every ≡ 0 → IsSome v.tx_due
     → may_send c.active v ≡ true
-    → packet.state ≡ Up → packet.poll ≡ false → packet.fin ≡ false → packet.my ≡ v.remote_discr
+    → packet.state ≡ Up → packet.poll ≡ false → (packet.fin ≡ true → receive.poll_ended v.poll ≡ v.poll) → packet.my ≡ v.remote_discr
     → packet.demand ≡ v.remote_demand → packet.min_rx ≡ v.remote_min_rx → packet.min_echo ≡ v.remote_min_echo
     → packet.mult ≡ v.remote_mult → packet.min_tx ≡ v.remote_tx → find (session_fails c ttl packet) session_tests ≡ None
     → has_come eff (deadline v) ≡ false → has_come eff (seq_deadline v) ≡ false → has_come (floor_tick eff) v.tx_due ≡ false

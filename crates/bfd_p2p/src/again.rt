@@ -8,13 +8,13 @@ ghost use Rattle.bfd_packet.specs.Layout.{fields_of};
 ghost use Rattle.bfd_rules.specs.declared.config.Config.{Config as ConfigOf};
 ghost use Rattle.bfd_rules.specs.Quantities.{deadline as deadline_of, seq_deadline as seq_deadline_of, may_send as may_send_of};
 ghost use Rattle.bfd_rules.specs.Sound.{IsSteady};
-ghost use Rattle.bfd_p2p.specs.Receive.{session_fails, session_tests};
+ghost use Rattle.bfd_p2p.specs.Receive.{poll_ended, session_fails, session_tests};
 ghost use Rattle.bfd_p2p.specs.Again.{IsAgain, heard_again};
 
 use crate::receiving::session_test;
 use bfd_num::{floor_tick, has_come};
 use bfd_packet::{Control, State};
-use bfd_rules::{Config, Vars, deadline, may_send, seq_deadline};
+use bfd_rules::{Config, Poll, Vars, deadline, may_send, seq_deadline};
 
 /// The session is in Up, sends periodic packets, and has no authentication, Demand mode or Echo function.
 fn is_calm(config: &Config, v: &Vars) -> bool
@@ -35,11 +35,18 @@ fn is_calm(config: &Config, v: &Vars) -> bool
         && may_send(config.active, v)
 }
 
-/// The packet is in Up, repeats what else the session knows of its peer, and has P and F clear.
+/// A Poll Sequence is running, which an F would end.
+fn is_running(poll: Poll) -> bool
+    ensures { result ≡ false → poll_ended poll ≡ poll }
+{
+    matches!(poll, Poll::Running(_))
+}
+
+/// The packet is in Up, repeats what else the session knows of its peer, and has P clear, and no F that ends a Poll Sequence.
 fn is_repeated(packet: &Control, v: &Vars) -> bool
     ensures up { result ≡ true → packet.now.state ≡ Up }
     ensures poll { result ≡ true → packet.now.poll ≡ false }
-    ensures fin { result ≡ true → packet.now.fin ≡ false }
+    ensures fin { result ≡ true → packet.now.fin ≡ true → poll_ended v.now.poll ≡ v.now.poll }
     ensures discr { result ≡ true → packet.now.my ≡ v.now.remote_discr }
     ensures demand { result ≡ true → packet.now.demand ≡ v.now.remote_demand }
     ensures rx { result ≡ true → packet.now.min_rx ≡ v.now.remote_min_rx }
@@ -49,7 +56,7 @@ fn is_repeated(packet: &Control, v: &Vars) -> bool
 {
     matches!(packet.state, State::Up)
         && !packet.poll
-        && !packet.fin
+        && !(packet.fin && is_running(v.poll))
         && packet.demand == v.remote_demand
         && packet.mult == v.remote_mult
         && packet.my == v.remote_discr
