@@ -298,17 +298,9 @@ pub fn happen<W: Timers, R: Wait, G: Gate, L: Ledger>(
             )
         }
         Line::Show { moment, discr } => {
+            let event = Event::Show;
             asked(
-                rt,
-                engine,
-                pass,
-                number,
-                moment,
-                discr,
-                Event::Show,
-                outs,
-                steps,
-                gate,
+                rt, engine, pass, number, moment, discr, event, outs, steps, gate,
             )
         }
     }
