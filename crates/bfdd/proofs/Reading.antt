@@ -2,7 +2,6 @@
 use Rattle.std.proofs.Common.{◌≡◌, ◌⊎◌, ◌≤◌, ℕ, true, false, if◌then◌else◌, List, [], length, Option, Some, None, Result, Ok, Err, inl, inr, refl}
 use Rattle.std.proofs.Common.{sym, subst, arith}
 use Rattle.std.proofs.lemmas.Bool.{le-ltb}
-use Rattle.std.proofs.lemmas.Bool.Decides.{nat_tests}
 use Rattle.std.specs.Prelude.{IfSome, nat_lt}
 use Rattle.std.specs.Io.KnownBytes.{Consumes, IsAtEnd}
 use Rattle.bfd_script.specs.Reading.{Lists, script_of}
@@ -59,16 +58,6 @@ read_reports job left right script w read is = inl record {
 pub read_answer : (job : Job) (left right : Option (List ℕ)) (script : Lists) (w : Wanted) → IsRead false left right script
     → Answers job script w → IsAnswer w
 read_answer job left right script w read is = is_answer job read.bytes w (is read.bytes read.spelled)
-
-pub none_wanted : (job : Job) (left right : Option (List ℕ)) (w : Wanted) → reads job ≡ true → serves job ≡ false
-    → IsFaulty false left right w ⊎ IsOverlong left right w → IfSome (wanted_of job left) (λ v. w ≡ v)
-none_wanted job left right w reading closed (inl faulty) = wanted_by job left w reading (λ bytes known.
-    let same : bytes ≡ faulty.bytes =
-    read_whole bytes right faulty.bytes (subst (λ l. Consumes l right faulty.bytes) known faulty.read) faulty.end in
-    rw same (within job faulty.bytes faulty.few (faulty_spelled job reading closed faulty)))
-none_wanted job left right w reading closed (inr long) = wanted_by job left w reading (λ bytes known.
-    let over : nat_lt most_bytes (length bytes) ≡ true = grind (nat_tests, known, long.long) in
-    rw (over, long.nothing) refl)
 
 pub none_reports : (job : Job) (left right : Option (List ℕ)) (w : Wanted) → reads job ≡ true → serves job ≡ false
     → IsFaulty false left right w ⊎ IsOverlong left right w → ReportsBytes job left right w

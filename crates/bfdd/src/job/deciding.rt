@@ -28,7 +28,6 @@ use std::thread::Threads;
     crate::proofs::Reading::read_wanted,
     crate::proofs::Reading::read_reports,
     crate::proofs::Reading::read_answer,
-    crate::proofs::Reading::none_wanted,
     crate::proofs::Reading::none_reports,
 ))]
 fn answer_of_script<R: Wait, S: Source>(

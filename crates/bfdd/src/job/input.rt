@@ -1,5 +1,5 @@
 //! The script that a source has.
-ghost use Rattle.std.specs.Prelude.{◌≡◌, ◌+◌, ◌<◌, ◌≤◌, IfErr, IfOk, IfSome, IsErrOf, length, string_bytes};
+ghost use Rattle.std.specs.Prelude.{◌≡◌, ◌+◌, ◌<◌, ◌≤◌, ℕ, IfErr, IfOk, IfSome, IsErrOf, length, string_bytes};
 ghost use Rattle.std.specs.Io.KnownBytes.{IsAtEnd};
 ghost use Rattle.bfd_edge.specs.Faults.{Rose};
 ghost use Rattle.bfd_script.specs.Sound.{IsScript};
@@ -67,10 +67,10 @@ fn read_to_end<S: Source>(alloc: Global, live: bool, source: &mut S) -> Result<R
         match source.read(&mut buf[..room]) {
             Ok(0) => return Ok(reader),
             Ok(more) => {
-                if reader.take(alloc, &buf[..more]).is_err() {
-                    return Err(InputFault::Memory);
+                match reader.take(alloc, &buf[..more]) {
+                    Ok(()) => count += more,
+                    Err(_) => return Err(InputFault::Memory),
                 }
-                count += more;
                 if count > MOST_BYTES {
                     return Err(InputFault::TooLarge);
                 }
