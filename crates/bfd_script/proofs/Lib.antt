@@ -26,3 +26,4 @@ pub mod Visible
 pub mod Splitting
 pub mod Windowed
 pub mod Quads
+pub mod Usual
