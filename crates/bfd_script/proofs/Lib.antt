@@ -27,3 +27,4 @@ pub mod Splitting
 pub mod Windowed
 pub mod Quads
 pub mod Usual
+pub mod Onward
