@@ -28,3 +28,4 @@ pub mod Windowed
 pub mod Quads
 pub mod Usual
 pub mod Onward
+pub mod WindowDigits

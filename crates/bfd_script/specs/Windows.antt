@@ -3,6 +3,7 @@
 use Rattle.std.specs.Prelude.{◌≡◌, ◌≤◌, ℕ, ◌+◌, Bool, true, List, ◌∷◌, ◌++◌, drop, length, Result, Ok}
 use Rattle.std.specs.List.{AllByRecursion}
 use Rattle.std.specs.Str.Parse.{digits_value}
+use Rattle.hex.specs.Hex.{decode_pairs}
 use Rattle.bfd_script.specs.declared.fields.fault.LineFault.{LineFault}
 use Rattle.bfd_script.specs.declared.line.entries.Entry.{Entry}
 use Rattle.bfd_script.specs.declared.line.words.Place.{Place}
@@ -26,6 +27,13 @@ pub record HasNumber (text : List ℕ) (at to n : ℕ) : Type 0 where
   pub here : drop at text ≡ digits ++ drop to text
   pub long : to ≡ at + length digits
   pub value : digits_value 10 digits ≡ n
+
+-- at this place stand hexadecimal digits that write these bytes, up to another place
+pub record HasBytes (text : List ℕ) (at to : ℕ) (bytes : List ℕ) : Type 0 where
+  pub digits : List ℕ
+  pub pairs : (i : ℕ) → decode_pairs i digits ≡ Ok bytes
+  pub here : drop at text ≡ digits ++ drop to text
+  pub long : to ≡ at + length digits
 
 -- at this place stands a field that is read as this value, and then this separator; the other place is the one behind it
 pub record Reads {X : Type 0} (read : List ℕ → Result X LineFault) (separator : ℕ) (text : List ℕ) (at to : ℕ) (value : X) : Type 0 where

@@ -7,7 +7,7 @@
 //! [`digits_of_run`] and [`hex_text`], as `specs/Spelling.antt` says.
 //!
 //! Layers, lowest first: `fault` (what can be wrong), `fields` (lines, fields and numbers), `digits` (hexadecimal digits, side
-//! by side), `values` (addresses and bytes).
+//! by side), `values` (addresses and bytes), `window` and `window_digits` (the same at a place of a text's first bytes).
 
 mod digits;
 mod fault;
@@ -22,3 +22,4 @@ pub use fields::{first_line, line_text, number, split_fields};
 pub(crate) use window::{WINDOW, address_at, ended_at, small_at, spaced_at};
 pub(crate) use window_digits::{ROOM, payload_at};
 pub use values::{address, bytes_read, hex_text, payload_read};
+pub(crate) use window_digits::{ROOM, payload_at};
