@@ -170,6 +170,7 @@ fn quad_at(text: &[u8; WINDOW], at: usize) -> (u32, usize)
 pub(crate) fn small_at(text: &[u8; WINDOW], at: usize) -> Option<(u8, usize)>
     requires { at + 4 ≤ 256 }
     ensures says { IfSome result (λ part. Reads (number_in 0 255) 32 text.now at part.1 part.0) }
+    ensures range { IfSome result (λ part. part.0 < 256) }
     ensures near { IfSome result (λ part. part.1 ≤ at + 4) }
 {
     let (n, behind) = octet_at(text, at, b' ');
