@@ -26,4 +26,6 @@ pub mod Visible
 pub mod Splitting
 pub mod Windowed
 pub mod Quads
+pub mod Usual
+pub mod Onward
 pub mod WindowDigits

@@ -16,6 +16,7 @@
 
 pub mod fields;
 pub mod line;
+mod ahead;
 mod places;
 mod pool;
 mod reading;
