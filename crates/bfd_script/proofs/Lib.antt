@@ -29,3 +29,4 @@ pub mod Quads
 pub mod Usual
 pub mod Onward
 pub mod WindowDigits
+pub mod UsualRows

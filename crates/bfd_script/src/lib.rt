@@ -14,9 +14,9 @@
 //! It stands on `bfd_session` and what that stands on, and on `byteorder`, `hex`, `itoa` and `memchr`.
 #![tactic(auto)]
 
+mod ahead;
 pub mod fields;
 pub mod line;
-mod ahead;
 mod places;
 mod pool;
 mod reading;

@@ -78,12 +78,7 @@ fn tick_at(text: &[u8; WINDOW]) -> Option<(Line, usize)>
     ensures sound { IfSome result (λ part. IsEvent part.0) }
     ensures near { IfSome result (λ part. (0 < part.1) × (part.1 ≤ 256)) }
 {
-    if text[0] != b't'
-        || text[1] != b'i'
-        || text[2] != b'c'
-        || text[3] != b'k'
-        || text[4] != b' '
-    {
+    if text[0] != b't' || text[1] != b'i' || text[2] != b'c' || text[3] != b'k' || text[4] != b' ' {
         return None;
     }
     let (n, used) = ended_at(text, 5, 16, 0, GREATEST_TICK)?;

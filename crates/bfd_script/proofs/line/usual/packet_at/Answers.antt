@@ -6,8 +6,16 @@ pub returns-clause-begins : goal.returns-clause-begins
 returns-clause-begins c = rw (c.in_ok-moment-2.ensures.value, c.front.ensures) (packet_begins (omega (arith, c.told-text))
     c.if-text-ne114.false c.if-text-ne120.false c.if-text-ne32.false c.in_ok-moment.ensures.says c.in_ok-port.ensures.says
     c.in_ok-iface.ensures.says c.in_ok-src.ensures.says c.in_ok-dst.ensures.says c.in_ok-ttl.ensures.says c.in_ok-size.ensures.says
-    (omega (arith, c.in_ok-moment.ensures.near, c.in_ok-port.ensures.near, c.in_ok-iface.ensures.near, c.in_ok-src.ensures.near,
-    c.in_ok-dst.ensures.near, c.in_ok-ttl.ensures.near, c.in_ok-size.ensures.near)))
+    (omega (
+      arith,
+      c.in_ok-moment.ensures.near,
+      c.in_ok-port.ensures.near,
+      c.in_ok-iface.ensures.near,
+      c.in_ok-src.ensures.near,
+      c.in_ok-dst.ensures.near,
+      c.in_ok-ttl.ensures.near,
+      c.in_ok-size.ensures.near,
+    )))
 
 pub returns-clause-sound : goal.returns-clause-sound
 returns-clause-sound c = record {
@@ -18,6 +26,9 @@ returns-clause-sound c = record {
   dst = c.in_ok-dst.ensures.range;
   ttl = c.in_ok-ttl.ensures.range;
   bytes = rw c.front.ensures c.in_ok-size.ensures.bytes;
-  short = rw c.front.ensures (omega (arith, c.in_ok-size.ensures.few,
-      length-take-le c.in_ok-size.size c.payload_at.new.room (omega (arith, c.in_ok-size.ensures.few, c.payload_at.array_long))));
+  short = rw c.front.ensures (omega (
+    arith,
+    c.in_ok-size.ensures.few,
+    length-take-le c.in_ok-size.size c.payload_at.new.room (omega (arith, c.in_ok-size.ensures.few, c.payload_at.array_long)),
+  ));
 }
