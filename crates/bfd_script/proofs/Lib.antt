@@ -27,4 +27,7 @@ pub mod Visible
 pub mod Splitting
 pub mod Windowed
 pub mod Quads
+pub mod Usual
+pub mod Onward
 pub mod WindowDigits
+pub mod UsualRows

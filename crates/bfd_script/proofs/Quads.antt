@@ -62,8 +62,16 @@ quad_ends {text} {at} {p} {q} {r} {to} {a} {b} {c} {d} ha hb hc hd near =
     let most : List ℕ = hb.field ++ (46 ∷ last) in
     let whole : List ℕ = ha.field ++ (46 ∷ most) in
     let dot : IsVisible 46 = record { above = omega arith; below = omega arith } in
-    let long : to ≡ at + length whole + 1 = omega (arith, ha.long, hb.long, hc.long, hd.long, length-append ha.field (46 ∷ most),
-        length-append hb.field (46 ∷ last), length-append hc.field (46 ∷ hd.field)) in
+    let long : to ≡ at + length whole + 1 = omega (
+      arith,
+      ha.long,
+      hb.long,
+      hc.long,
+      hd.long,
+      length-append ha.field (46 ∷ most),
+      length-append hb.field (46 ∷ last),
+      length-append hc.field (46 ∷ hd.field),
+    ) in
     record {
       field = whole;
       visible = each_more IsVisible ha.field (46 ∷ most) ha.visible

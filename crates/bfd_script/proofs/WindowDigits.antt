@@ -2,13 +2,14 @@
 use Rattle.bfd_script.proofs.FieldsCommon.{◌≡◌, ℕ, ◌+◌, ◌*◌, ◌^◌, ◌<◌, ◌≤◌, ◌&&◌, cond, Bool, true, false, List, [], ◌∷◌, ◌++◌, length, take}
 use Rattle.bfd_script.proofs.FieldsCommon.{drop, Option, Some, None, Result, Ok, Err, refl, ap, sym, ◌∙◌, arith, nat_tests, slice_index}
 use Rattle.bfd_script.proofs.FieldsCommon.{append_assoc, take-append-drop, drop-drop, length-drop, length-take-le, decode_pairs}
-use Rattle.bfd_script.proofs.FieldsCommon.{hex_digit_value, address_of, payload_of}
+use Rattle.bfd_script.proofs.FieldsCommon.{IsBytes, hex_digit_value, address_of, payload_of}
 use Rattle.bfd_script.proofs.Common.{length-append}
 use Rattle.std.proofs.lemmas.List.{length-take, take_all}
 use Rattle.std.specs.Prelude.{nat_le}
 use Rattle.bfd_packet.specs.declared.arrival.Addr.TheVariants.{V6}
 use Rattle.byteorder.specs.Endian.{big_number}
 use Rattle.hex.specs.declared.error.FromHexError.{FromHexError}
+use Rattle.hex.proofs.HexLemmas.{decode_pairs-ok}
 use Rattle.bfd_script.specs.Windows.{HasBytes, IsField, IsVisible, Reads}
 use Rattle.bfd_script.proofs.Decoding.{payload_by_room}
 use Rattle.bfd_script.proofs.Nibbles.{appended, joined, sized}
@@ -124,3 +125,7 @@ long_ends {text} {at} {high} {low} h l eh el within e =
       long = omega (arith, all.long);
       says = rw (sized all.digits 16 (omega (arith, long)), all.pairs 0) (ap (λ n. Ok (V6 n)) (whole_number high low eh el));
     }
+
+-- what digits write is bytes
+pub bytes_has : {text : List ℕ} {at to : ℕ} {bytes : List ℕ} → HasBytes text at to bytes → IsBytes bytes
+bytes_has {bytes} h = (decode_pairs-ok 0 h.digits bytes (h.pairs 0)).2

@@ -81,8 +81,12 @@ number_more {text} {from} {at} {n} {d} to next h some within few e = record {
 
 -- a number of few digits is small
 pub number_small : {text : List ℕ} {from at n : ℕ} → HasNumber text from at n → at ≤ from + 17 → n < 10 ^ 17
-number_small h few = omega (arith, h.value, digits_value_short own h.digits 17 (number_parts h.digits h.number).0
-    (omega (arith, few, h.long)))
+number_small h few = omega (
+  arith,
+  h.value,
+  digits_value_short own h.digits 17 (number_parts h.digits h.number).0
+      (omega (arith, few, h.long)),
+)
 
 -- ---- a field
 

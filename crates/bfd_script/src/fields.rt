@@ -20,4 +20,5 @@ pub use digits::{BYTES, digits_of_run};
 pub use fault::{BadLine, LineFault, ReadFault, ScriptFault};
 pub use fields::{line_text, number, split_fields, whole_line};
 pub use values::{address, bytes_read, hex_text, payload_read};
+pub(crate) use window::{WINDOW, address_at, ended_at, small_at, spaced_at};
 pub(crate) use window_digits::{ROOM, payload_at};

@@ -14,6 +14,7 @@
 //! It stands on `bfd_session` and what that stands on, and on `byteorder`, `hex`, `itoa` and `memchr`.
 #![tactic(auto)]
 
+mod ahead;
 pub mod fields;
 pub mod line;
 mod places;

@@ -5,8 +5,11 @@
 ghost use Rattle.std.specs.Prelude.{◌≡◌, ◌+◌, ◌<◌, ◌≤◌, ◌^◌, IfSome, length, slice_index};
 ghost use Rattle.bfd_packet.specs.declared.arrival.Addr.TheVariants.{V4};
 ghost use Rattle.bfd_script.specs.Fields.{number_in};
-ghost use Rattle.bfd_script.specs.Values.{address_of};
+ghost use Rattle.bfd_script.specs.Values.{IsAddress, address_of};
 ghost use Rattle.bfd_script.specs.Windows.{HasNumber, Reads};
+
+use crate::fields::window_digits::long_at;
+use bfd_packet::Addr;
 
 /// How many bytes are surely there where a line is looked at in this way: more than the longest such line has.
 pub(crate) const WINDOW: usize = 256;
@@ -167,6 +170,7 @@ fn quad_at(text: &[u8; WINDOW], at: usize) -> (u32, usize)
 pub(crate) fn small_at(text: &[u8; WINDOW], at: usize) -> Option<(u8, usize)>
     requires { at + 4 ≤ 256 }
     ensures says { IfSome result (λ part. Reads (number_in 0 255) 32 text.now at part.1 part.0) }
+    ensures range { IfSome result (λ part. part.0 < 256) }
     ensures near { IfSome result (λ part. part.1 ≤ at + 4) }
 {
     let (n, behind) = octet_at(text, at, b' ');
@@ -174,4 +178,18 @@ pub(crate) fn small_at(text: &[u8; WINDOW], at: usize) -> Option<(u8, usize)>
         return None;
     }
     Some((n as u8, behind))
+}
+
+/// An address before a space, and the place behind that.
+pub(crate) fn address_at(text: &[u8; WINDOW], at: usize) -> Option<(Addr, usize)>
+    requires { at + 33 ≤ 256 }
+    ensures says { IfSome result (λ part. Reads address_of 32 text.now at part.1 part.0) }
+    ensures range { IfSome result (λ part. IsAddress part.0) }
+    ensures near { IfSome result (λ part. part.1 ≤ at + 33) }
+{
+    let (n, behind) = quad_at(text, at);
+    if behind != 0 {
+        return Some((Addr::V4(n), behind));
+    }
+    long_at(text, at)
 }

@@ -1,6 +1,6 @@
 //! Hexadecimal digits at a place of a text's first bytes.
 ghost use Rattle.std.specs.Prelude.{◌≡◌, ◌+◌, ◌*◌, ◌≤◌, ◌∷◌, [], ◌++◌, IfSome, Some, length, slice_index, take};
-ghost use Rattle.hex.specs.Hex.{hex_digit_value};
+ghost use Rattle.hex.specs.Hex.{IsBytes, hex_digit_value};
 ghost use Rattle.bfd_script.specs.Values.{IsAddress, address_of, payload_of};
 ghost use Rattle.bfd_script.specs.Windows.{HasBytes, Reads};
 
@@ -111,7 +111,7 @@ fn bytes_at(text: &[u8; WINDOW], from: usize, room: &mut [u8; ROOM]) -> Option<u
 }
 
 /// A payload of at most 52 bytes before the end of the line, put into room: how many bytes, and the place behind the end of the line.
-#[tactic(auto, using(crate::proofs::WindowDigits::payload_ends))]
+#[tactic(auto, using(crate::proofs::WindowDigits::payload_ends, crate::proofs::WindowDigits::bytes_has))]
 pub(crate) fn payload_at(
     text: &[u8; WINDOW],
     from: usize,
@@ -119,6 +119,7 @@ pub(crate) fn payload_at(
 ) -> Option<(u8, usize)>
     requires { from + 106 ≤ 256 }
     ensures says { IfSome result (λ part. Reads payload_of 10 text.now from part.1 (take part.0 room.new)) }
+    ensures bytes { IfSome result (λ part. IsBytes (take part.0 room.new)) }
     ensures few { IfSome result (λ part. part.0 ≤ 52) }
     ensures near { IfSome result (λ part. part.1 ≤ from + 106) }
 {

@@ -18,20 +18,26 @@ pub overflow_sub-at : goal.overflow_sub-at
 overflow_sub-at c = omega (arith, c.loop-next.invariant.2)
 
 pub overflow_mul-n : goal.overflow_mul-n
-overflow_mul-n c = omega (arith, c.if-at-from.false, c.requires.few,
-    number_small c.loop-next.invariant.0 (omega (arith, c.if-at-from.false, c.requires.few)))
+overflow_mul-n c = omega (
+  arith,
+  c.if-at-from.false,
+  c.requires.few,
+  number_small c.loop-next.invariant.0 (omega (arith, c.if-at-from.false, c.requires.few)),
+)
 
 pub overflow_add-n : goal.overflow_add-n
-overflow_add-n c = omega (arith, c.loop-next-test.true,
-    number_small c.loop-next.invariant.0 (omega (arith, c.if-at-from.false, c.requires.few)))
+overflow_add-n c = omega (
+  arith,
+  c.loop-next-test.true,
+  number_small c.loop-next.invariant.0 (omega (arith, c.if-at-from.false, c.requires.few)),
+)
 
 pub loop-next-smaller : goal.loop-next-smaller
 loop-next-smaller c = omega (arith, c.loop-next.invariant.1)
 
 pub loop-next-preserved : goal.loop-next-preserved
 loop-next-preserved c =
-    let some = (c.loop-next.invariant.3 c.loop-next-test.true).0 in
-    (
+    let some = (c.loop-next.invariant.3 c.loop-next-test.true).0 in (
       number_more (c.loop-next.at + 1) refl c.loop-next.invariant.0 some (omega (arith, c.told-text, c.requires.within, c.loop-next.invariant.1)) c.loop-next-test.true
           (c.loop-next.invariant.3 c.loop-next-test.true).1,
       omega (arith, c.if-at-from.false),
