@@ -14,11 +14,7 @@ use Rattle.bfd_packet.specs.declared.control.Control.{Control}
 use Rattle.bfd_packet.specs.declared.discard.Test.{Test}
 use Rattle.bfd_packet.specs.Layout.{fields_of, word_at}
 use Rattle.bfd_packet.specs.States.{is_init_or_up}
-use Rattle.std.specs.Result.{result_err}
-use Rattle.bfd_demux.specs.declared.target.Target.{Target}
 use Rattle.bfd_demux.specs.declared.target.Target.TheVariants.{Session, Reflector, Echo}
-use Rattle.bfd_demux.specs.Parts.{paired}
-use Rattle.bfd_demux.specs.Selection.{fields_on}
 
 -- tests that agree name the same row
 the_one_agree : (test other : Row → Bool) → ((row : Row) → test row ≡ other row) → (rows : List Row)
@@ -74,20 +70,6 @@ ok_then (Err e) follows h = h
 pub ok_always : {T E : Type 0} {P : Type 0} (r : Result T E) → P → IfOk r (λ t. P)
 ok_always (Ok t) p = p
 ok_always (Err e) p = tt
-
--- what is true of a target is true of it with its fields
-pub paired_ok : (P : Target → Type 0) (t : Result Target Test) (fields : Option Control) → IfOk t P → IfOk (paired t fields) (λ r. P r.0)
-paired_ok P (Ok target) fields h = h
-paired_ok P (Err test) fields h = tt
-
-pub paired_err : (t : Result Target Test) (fields : Option Control) → result_err (paired t fields) ≡ result_err t
-paired_err (Ok target) fields = refl
-paired_err (Err test) fields = refl
-
-pub paired_fields : (t : Result Target Test) {fields expected : Option Control} → fields ≡ expected
-    → IfOk (paired t fields) (λ r. r.1 ≡ expected)
-paired_fields (Ok target) e = e
-paired_fields (Err test) e = tt
 
 -- an echo packet
 pub echo_failing : (rows : List Row) (arrival : Arrival) → first_echo_failing rows arrival.payload ≡ first_failing_on EchoPort rows arrival
@@ -290,12 +272,6 @@ pub header_passed : (port : Port) (payload : List ℕ) {packet : Control} → po
     IsRead (find (λ test. header_fails test payload) (tests_on_header port)) (fields_of payload) packet
 header_passed EchoPort payload no_echo is = absurd (no_echo refl)
 header_passed port payload no_echo is = read_fields _ (fields_of payload) is
-
--- its fields are those of a port that has some
-pub fields_read : {port : Port} (arrival : Arrival) {packet : Control} → port ≢ EchoPort → packet ≡ fields_of arrival.payload
-    → Some packet ≡ fields_on port arrival
-fields_read {port = EchoPort} arrival no_echo is = absurd (no_echo refl)
-fields_read arrival no_echo is = ap Some is
 
 header_failed : (port : Port) (payload : List ℕ) {test : Test} → port ≢ EchoPort → read_of port payload ≡ Err test →
     find (λ test. header_fails test payload) (tests_on_header port) ≡ Some test

@@ -1,5 +1,5 @@
 -- The results of the parts of a selection, each for its kind of packet. Together they are the definitions of Selection.
-use Rattle.std.specs.Prelude.{ℕ, Bool, false, not, ◌==◌, ◌&&◌, Option, Some, None, List, [], ◌∷◌, find, Result, Ok, Err, if◌then◌else◌}
+use Rattle.std.specs.Prelude.{ℕ, Bool, false, not, ◌==◌, ◌&&◌, Option, Some, None, List, [], ◌∷◌, find, if◌then◌else◌}
 use Rattle.std.specs.List.{list_any}
 use Rattle.std.specs.Option.{option_map}
 use Rattle.bfd_packet.specs.declared.arrival.Arrival.{Arrival}
@@ -57,8 +57,3 @@ names_session port packet selector row = if packet.your == 0 then row_has_select
 abbrev pub index_on : Port → List Row → ℕ → ℕ
 index_on SbfdPort rows discr = reflector_index rows discr
 index_on _ rows discr = session_index rows discr
-
--- a target with the fields of its packet, or the test that fails
-abbrev pub paired : Result Target Test → Option Control → Result (Target × Option Control) Test
-paired (Ok target) fields = Ok (target, fields)
-paired (Err test) fields = Err test

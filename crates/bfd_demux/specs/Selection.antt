@@ -9,7 +9,6 @@ use Rattle.bfd_packet.specs.declared.arrival.Port.{Port}
 use Rattle.bfd_packet.specs.declared.arrival.Port.TheVariants.{Single as SinglePort, Multi as MultiPort, Echo as EchoPort, Sbfd as SbfdPort}
 use Rattle.bfd_packet.specs.declared.arrival.Port.TheVariants.{Answer as AnswerPort}
 use Rattle.bfd_packet.specs.States.{is_init_or_up}
-use Rattle.bfd_packet.specs.declared.control.Control.{Control}
 use Rattle.bfd_packet.specs.declared.discard.Test.{Test}
 use Rattle.bfd_packet.specs.declared.discard.Test.TheVariants.{YourUnknown, YourZeroState, NoSession, MultipointYour, NoTail, EchoForm}
 use Rattle.bfd_packet.specs.Layout.{fields_of, word_at}
@@ -51,11 +50,6 @@ selector_on _ arrival = None
 -- 8562 section 5.7)
 abbrev pub tail_selector : Arrival → Option RowKind
 tail_selector arrival = Some (Tail (fields_of arrival.payload).my arrival.iface arrival.dst arrival.src)
-
--- the fields of an arrival on this port; an echo packet has none
-abbrev pub fields_on : Port → Arrival → Option Control
-fields_on EchoPort arrival = None
-fields_on port arrival = Some (fields_of arrival.payload)
 
 -- the row has this kind and these addresses
 abbrev pub row_has_selector : Option RowKind → Row → Bool

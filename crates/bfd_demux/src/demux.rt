@@ -10,11 +10,11 @@ ghost use Rattle.bfd_packet.specs.HeaderTests.{takes_multipoint_of};
 ghost use Rattle.bfd_packet.specs.States.{is_init_or_up};
 ghost use Rattle.bfd_demux.specs.Rows.{add_fault, build_fault, early_fault, fault_kind, has_addresses, same_selector};
 ghost use Rattle.bfd_demux.specs.declared.row.Row.{Row};
-ghost use Rattle.bfd_demux.specs.Selection.{fields_on, first_header_failing, first_table_failing, row_has_discr, row_has_selector};
+ghost use Rattle.bfd_demux.specs.Selection.{first_header_failing, first_table_failing, row_has_discr, row_has_selector};
 ghost use Rattle.bfd_demux.specs.Selection.{is_by_addresses, is_echo_form, knows, reflector_index, selector_on, session_index, target_of};
 ghost use Rattle.bfd_demux.specs.Selection.{the_one};
 ghost use Rattle.bfd_demux.specs.Parts.{echo_target, first_echo_failing, first_past_header, first_session_failing, index_on, names_session};
-ghost use Rattle.bfd_demux.specs.Parts.{paired, target_named};
+ghost use Rattle.bfd_demux.specs.Parts.{target_named};
 ghost use Rattle.bfd_demux.specs.Index.{AreNames, AreAddresses, names_a_session};
 ghost use Rattle.bfd_demux.specs.Table.{how_many};
 
@@ -282,19 +282,6 @@ impl Demux {
     }
 }
 
-// A target with the fields of the packet that is for it.
-fn with_fields(
-    target: Result<Target, Test>,
-    fields: Option<Control>,
-) -> Result<(Target, Option<Control>), Test>
-    ensures { result ≡ paired target fields }
-{
-    match target {
-        Ok(target) => Ok((target, fields)),
-        Err(test) => Err(test),
-    }
-}
-
 impl Demux {
     /// What the arrival is for, or the first of its port's tests up to selection that it fails (RFC 5880
     /// section 6.8.6). First come the tests on the header, as `header_test` makes them; an echo packet has
@@ -302,6 +289,7 @@ impl Demux {
     /// MultipointYour and NoTail (RFC 8562); and else YourUnknown, YourZeroState and NoSession. It allocates
     /// no memory. A step is the look at one entry of a sorted table: a lookup takes at most 17, and only a
     /// selection by addresses needs two lookups.
+    #[tactic(none)]
     pub fn screen<L: Ledger>(&self, arrival: &Arrival, steps: &mut Steps<L>) -> Result<Target, Test>
         ensures tests { result_err result ≡ first_table_failing self.now arrival.now }
         ensures target { IfOk result (λ target. Some target ≡ target_of self.now arrival.now) }
@@ -309,32 +297,11 @@ impl Demux {
         ensures cost { steps.new ≤ steps.old + 34 }
         ensures one_lookup { is_by_addresses arrival.now.port arrival.now ≡ false → steps.new ≤ steps.old + 17 }
     {
-        match self.screen_fields(arrival, steps) {
-            Ok((target, _)) => Ok(target),
-            Err(test) => Err(test),
-        }
-    }
-
-    /// The same, and with the target the packet's fields, as the tests have read them; an echo packet has none.
-    #[tactic(none)]
-    pub fn screen_fields<L: Ledger>(
-        &self,
-        arrival: &Arrival,
-        steps: &mut Steps<L>,
-    ) -> Result<(Target, Option<Control>), Test>
-        ensures tests { result_err result ≡ first_table_failing self.now arrival.now }
-        ensures target { IfOk result (λ r. Some r.0 ≡ target_of self.now arrival.now) }
-        ensures fields { IfOk result (λ r. r.1 ≡ fields_on arrival.now.port arrival.now) }
-        ensures header { OnOk result (first_header_failing arrival.now ≡ None) }
-        ensures cost { steps.new ≤ steps.old + 34 }
-        ensures one_lookup { is_by_addresses arrival.now.port arrival.now ≡ false → steps.new ≤ steps.old + 17 }
-    {
         match arrival.port {
-            Port::Echo => with_fields(self.select_echo(arrival.payload.as_slice(), steps), None),
+            Port::Echo => self.select_echo(arrival.payload.as_slice(), steps),
             port => {
                 let packet = read(port, arrival.payload.as_slice())?;
-                let target = self.select_packet(arrival, &packet, steps);
-                with_fields(target, Some(packet))
+                self.select_packet(arrival, &packet, steps)
             }
         }
     }

@@ -63,54 +63,26 @@ judged_call {engine} {shard} {place} {moment} {event} {k} is taken call =
       );
     }
 
--- what an arrival that resolves to this is, if it is an own event of a session
-abbrev pub Taken : List SessionConfig → Destination → Type 0
-Taken configs (Discarded test) = Unit {0}
-Taken configs (Reflected place) = Unit {0}
-Taken configs (OwnEvent place event) = IsTaken configs place event
+-- the judgement of an arrival's answer, for one who knows where it goes
+abbrev pub Judged : Shards → ℕ → Arrival → Knows → Result Answer EngineFault → Destination → Type 0
+Judged engine moment arrival l result to = IfOk result (λ answer. arrival_judged engine moment arrival to l answer)
 
-judged_target : (target : Target) (engine : Shards) (moment : ℕ) (arrival : Arrival) (k l : Knows) (outs outs2 : List Out)
-    (result : Result Answer EngineFault)
-    → 0 < length engine.locks → None ≡ first_table_failing (table_of engine.configs engine.pool) arrival → {place : ℕ} {event : Event}
-    → coming_to (Some target) arrival ≡ OwnEvent place event
-    → Taken engine.configs (coming_to (Some target) arrival)
-    → IsDone (coming_act engine moment arrival (coming_to (Some target) arrival)) engine k l outs outs2 result
-    → IfOk result (λ answer. arrival_judged engine moment arrival (coming_to (Some target) arrival) l answer)
-judged_target (Session place) engine moment arrival k l outs outs2 (Ok answer) some none own taken h = judged_call
-    (λ eff s. packet_is engine arrival eff s none) (dealt_event engine _ _ _ refl some taken) h
-judged_target (ReflectorAt place) engine moment arrival k l outs outs2 (Ok answer) some none own taken h = absurd (cc)
-judged_target (Echo place sequence) engine moment arrival k l outs outs2 (Ok answer) some none own taken h = judged_call
-    (λ eff s. return_is sequence eff s) (dealt_event engine _ _ _ refl some taken) h
-judged_target target engine moment arrival k l outs outs2 (Err fault) some none own taken h = tt
+-- a packet for the session at a place
+pub judged_packet : (engine : Shards) (moment : ℕ) (arrival : Arrival) (k l : Knows) (outs outs2 : List Out)
+    (result : Result Answer EngineFault) (place : ℕ)
+    → 0 < length engine.locks → None ≡ first_table_failing (table_of engine.configs engine.pool) arrival
+    → IsTaken engine.configs place (Packet arrival) → IsDone (own_act engine moment place (Packet arrival)) engine k l outs outs2 result
+    → Judged engine moment arrival l result (OwnEvent place (Packet arrival))
+judged_packet engine moment arrival k l outs outs2 (Ok answer) place some none taken done =
+    judged_call (λ eff s. packet_is engine arrival eff s none) (dealt_event engine _ _ _ refl some taken) done
+judged_packet engine moment arrival k l outs outs2 (Err fault) place some none taken done = tt
 
--- the target of an arrival that resolves to an own event
-record IsFor (rows : List Row) (arrival : Arrival) : Type 0 where
-  target : Target
-  passes : None ≡ first_table_failing rows arrival
-  is : coming_to (Some target) arrival ≡ comes_to rows arrival
-
-is_for : (rows : List Row) (arrival : Arrival) (f : Option Test) (o : Option Target) {place : ℕ} {event : Event}
-    → first_table_failing rows arrival ≡ f → target_of rows arrival ≡ o
-    → coming_by f o arrival ≡ OwnEvent place event → IsFor rows arrival
-is_for rows arrival (Some test) o e t own = absurd (cc)
-is_for rows arrival None None e t own = absurd (cc)
-is_for rows arrival None (Some target) e t own = record {
-  target = target;
-  passes = sym e;
-  is = sym (ap₂ (λ f o. coming_by f o arrival) e t);
-}
-
--- an own event of a session, for which an arrival is
-pub judged_own_event : (engine : Shards) (moment : ℕ) (arrival : Arrival) (k l : Knows) (outs outs2 : List Out)
-    (result : Result Answer EngineFault) {place : ℕ} {event : Event}
-    → 0 < length engine.locks → comes_to (table_of engine.configs engine.pool) arrival ≡ OwnEvent place event
-    → IsTaken engine.configs place event
-    → IsDone (own_act engine moment place event) engine k l outs outs2 result
-    → IfOk result (λ answer. arrival_judged engine moment arrival (comes_to (table_of engine.configs engine.pool) arrival) l answer)
-judged_own_event engine moment arrival k l outs outs2 result {place} {event} some own taken done =
-    let rows : List Row = table_of engine.configs engine.pool in
-    let f = is_for rows arrival (first_table_failing rows arrival) (target_of rows arrival) refl refl own in
-    let same : OwnEvent place event ≡ coming_to (Some f.target) arrival = sym (f.is ∙ own) in
-    rw (← f.is) (judged_target f.target engine moment arrival k l outs outs2 result some f.passes (sym same)
-    (subst (λ (d : Destination). Taken engine.configs d) same taken)
-    (subst (λ (d : Destination). IsDone (coming_act engine moment arrival d) engine k l outs outs2 result) same done))
+-- an echo packet that came back to it
+pub judged_return : (engine : Shards) (moment : ℕ) (arrival : Arrival) (k l : Knows) (outs outs2 : List Out)
+    (result : Result Answer EngineFault) (place sequence : ℕ)
+    → 0 < length engine.locks → IsTaken engine.configs place (Returned sequence)
+    → IsDone (own_act engine moment place (Returned sequence)) engine k l outs outs2 result
+    → Judged engine moment arrival l result (OwnEvent place (Returned sequence))
+judged_return engine moment arrival k l outs outs2 (Ok answer) place sequence some taken done =
+    judged_call (λ eff s. return_is sequence eff s) (dealt_event engine _ _ _ refl some taken) done
+judged_return engine moment arrival k l outs outs2 (Err fault) place sequence some taken done = tt

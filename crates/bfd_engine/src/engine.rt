@@ -94,6 +94,7 @@ impl<W: Timers> Engine<W> {
     ///
     /// Full comes only where the journal has as many entries as its limit, Spent only where the lock has no turn left, and Memory when out
     /// of memory, with a journal below its limit. Then no entry and no output is added, and the sessions are as before.
+    #[inline(always)]
     pub fn turn_on<R: Wait, L: Ledger>(
         &self,
         rt: &R,

@@ -12,10 +12,11 @@ ghost use Rattle.bfd_engine.specs.Turned.{HasExpired};
 use crate::engine::Engine;
 use crate::fault::EngineFault;
 use crate::pass::EnginePass;
+use bfd_demux::Target;
 use bfd_num::{Moment, Steps, Tick};
 use bfd_packet::Arrival;
 use bfd_rules::Outs;
-use bfd_session::{Answer, Coming, Event};
+use bfd_session::{Answer, Event};
 use bfd_shard::ShardEvent;
 use bfd_wheel::Timers;
 use std::sync::Wait;
@@ -84,13 +85,23 @@ impl<W: Timers> Engine<W> {
         ensures spare { outs.old.spare ≤ outs.new.spare + 5 }
         ensures cost { steps.new ≤ steps.old + 36 }
     {
-        match self.table.comes_to(arrival, steps) {
-            Coming::Discarded(test) => Ok(Answer::Dropped(test)),
-            Coming::Answered(out) => {
-                outs.push(out);
-                Ok(Answer::Handled)
+        match self.table.screen(&arrival, steps) {
+            Ok(Target::Session(k)) => {
+                let packet = Event::Packet(arrival);
+                self.own(rt, pass, moment, k, packet, outs, steps)
             }
-            Coming::Own(k, event) => self.own(rt, pass, moment, k, event, outs, steps),
+            Ok(Target::Echo(k, sequence)) => {
+                let returned = Event::Returned(sequence);
+                self.own(rt, pass, moment, k, returned, outs, steps)
+            }
+            Ok(Target::Reflector(place)) => match self.table.reflected(place, &arrival) {
+                Ok(out) => {
+                    outs.push(out);
+                    Ok(Answer::Handled)
+                }
+                Err(test) => Ok(Answer::Dropped(test)),
+            },
+            Err(test) => Ok(Answer::Dropped(test)),
         }
     }
 

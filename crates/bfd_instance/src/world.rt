@@ -1,5 +1,5 @@
 //! The events of a world.
-ghost use Rattle.std.specs.Prelude.{ℕ, ◌≡◌, ◌<◌, ◌≤◌, ◌+◌, ◌*◌, IfOk, IfSome, MatchResult, Some, List, [], length, slice_get};
+ghost use Rattle.std.specs.Prelude.{ℕ, ◌≡◌, ◌<◌, ◌≤◌, ◌+◌, ◌*◌, IfSome, Some, List, [], length, slice_get};
 ghost use Rattle.std.specs.Prelude.{false, map, max};
 ghost use Rattle.bfd_num.specs.Due.{has_come};
 ghost use Rattle.bfd_lanes.specs.Places.{least, places};
@@ -7,8 +7,8 @@ ghost use Rattle.bfd_session.specs.Due.{due as due_tick};
 ghost use Rattle.bfd_shard.specs.Expired.{forgotten, has_expired};
 ghost use Rattle.bfd_shard.specs.Shard.{NoneDue};
 ghost use Rattle.bfd_session.specs.declared.event.SessionConfig.{SessionConfig};
-ghost use Rattle.bfd_session.specs.Arrivals.{Discarded, comes_to, coming_to};
-ghost use Rattle.bfd_session.specs.Reaching.{IsNamed, IsTaken, Reaches};
+ghost use Rattle.bfd_session.specs.Arrivals.{comes_to};
+ghost use Rattle.bfd_session.specs.Reaching.{IsNamed, IsTaken};
 ghost use Rattle.bfd_session.specs.Kinds.{Running, configs_of};
 ghost use Rattle.bfd_session.specs.Rows.{Ascends, table_of, place_of as place_in};
 ghost use Rattle.bfd_session.specs.Step.{CanTake};
@@ -21,9 +21,8 @@ ghost use Rattle.bfd_num.specs.Counting.{IsBlankOf};
 
 use bfd_demux::Target;
 use bfd_num::{Moment, Steps, Tick};
-use bfd_packet::{Arrival, Test};
-use bfd_rules::{Out, Outs, Refusal};
-use bfd_sbfd::reflect;
+use bfd_packet::Arrival;
+use bfd_rules::{Outs, Refusal};
 use bfd_script::line::Line;
 use bfd_session::{Answer, Event, Table};
 use bfd_shard::{Sessions, ShardEvent};
@@ -77,20 +76,6 @@ fn own<W: Timers, L: Ledger>(
     sessions.apply_own(place, moment, event, outs, &mut Steps::<L>::new(blank))
 }
 
-/// Whom an arrival is for, or the test up to selection that discards it, by a counter of steps of its own.
-#[tactic(auto, using(bfd_session::proofs::Reach::reaches))]
-fn screened<L: Ledger>(table: &Table, arrival: &Arrival, blank: Blank) -> Result<Target, Test>
-    requires ascends { Ascends table.now.configs }
-    requires blank { IsBlankOf L.name L.parts blank.name blank.parts }
-    ensures coming { MatchResult result
-        (λ target. comes_to (table_of table.now.configs table.now.pool) arrival.now ≡ coming_to (Some target) arrival.now)
-        (λ test. comes_to (table_of table.now.configs table.now.pool) arrival.now ≡ Discarded test) }
-    ensures reaches { IfOk result (λ target. Reaches table.now.configs table.now.pool arrival.now target) }
-{
-    let _pool = table.pool();
-    table.screen(arrival, &mut Steps::<L>::new(blank))
-}
-
 /// An arrival for the reflector at this place.
 fn answered(table: &Table, place: u32, arrival: &Arrival, outs: &mut Outs) -> Answer
     requires named { IsNamed table.now.pool place arrival.now }
@@ -101,11 +86,9 @@ fn answered(table: &Table, place: u32, arrival: &Arrival, outs: &mut Outs) -> An
         (world.world_of sessions table.now.pool last) }
     ensures room { outs.new.room ≡ outs.old.room }
 {
-    let pool = table.pool();
-    match reflect(pool, arrival) {
-        Ok(datagram) => {
-            let discr = pool[place as usize].discr;
-            outs.push(Out::Sent { discr, datagram });
+    match table.reflected(place, arrival) {
+        Ok(out) => {
+            outs.push(out);
             Answer::Handled
         }
         Err(test) => Answer::Dropped(test),
@@ -133,7 +116,7 @@ pub fn arrive<W: Timers>(
     ensures within { IfSome result.1 (λ place. place < length sessions.old.sessions) }
     ensures room { outs.new.room ≡ outs.old.room }
 {
-    match screened::<Brand>(table, &arrival, Blank::new(1)) {
+    match table.screen_uncounted(&arrival) {
         Ok(Target::Session(place)) => {
             let packet = Event::Packet(arrival);
             let answer = own::<W, Brand>(sessions, place, moment, &packet, outs, Blank::new(1));

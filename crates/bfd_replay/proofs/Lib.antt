@@ -1,5 +1,4 @@
 mod PlanCommon
-pub mod Comings
 pub mod Planning
 pub mod Parting
 pub mod Worlds

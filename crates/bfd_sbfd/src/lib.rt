@@ -40,5 +40,5 @@ mod waiting;
 pub use config::InitiatorConfig;
 pub use initiator::Initiator;
 pub use law::initiator_laws;
-pub use reflecting::{Reflector, reflect, reflect_by};
+pub use reflecting::{Reflector, reflect};
 pub use waiting::{deadline, wait};

@@ -1,11 +1,10 @@
 //! The reflector: its answer to one arrival (RFC 7880 sections 5 and 7.2, RFC 7881 section 6).
-ghost use Rattle.std.specs.Prelude.{◌≡◌, None, Some, List, IfOk, OnOk};
+ghost use Rattle.std.specs.Prelude.{◌≡◌, IfOk};
 ghost use Rattle.bfd_packet.specs.declared.arrival.Port.TheVariants.{Sbfd};
-ghost use Rattle.bfd_packet.specs.HeaderTests.{first_failing, read_of};
+ghost use Rattle.bfd_packet.specs.HeaderTests.{read_of};
 ghost use Rattle.bfd_packet.specs.Layout.{fields_of};
 ghost use Rattle.bfd_sbfd.specs.Reflect as reflecting;
 ghost use Rattle.bfd_sbfd.specs.Reflect.{Ascends};
-ghost use Rattle.bfd_sbfd.specs.declared.reflecting.Reflector.{Reflector as ReflectorIn};
 
 use crate::transmitting::SBFD_PORT;
 use bfd_packet::{Arrival, Control, Datagram, Port, State, Test, read, write_plain};
@@ -82,31 +81,8 @@ fn answered(reflector: &Reflector, packet: &Control, arrival: &Arrival) -> Datag
 fn fields(payload: &[u8]) -> Result<Control, Test>
     ensures value { result ≡ read_of Sbfd payload.now }
     ensures fields { IfOk result (λ packet. packet ≡ fields_of payload.now) }
-    ensures header { OnOk result (first_failing Sbfd payload.now ≡ None) }
 {
     read(Port::Sbfd, payload)
-}
-
-/// The answer of this reflector, which the packet's Your Discriminator names, or the first of the tests AuthUnexpected and NotDemand
-/// that the packet fails, from its fields as they were read: its header passes the tests of the reflectors' port (RFC 7880 section 7.2).
-/// Allocates no memory.
-pub fn reflect_by(
-    reflector: &Reflector,
-    packet: &Control,
-    arrival: &Arrival,
-) -> Result<Datagram, Test>
-    requires header { first_failing Sbfd arrival.now.payload ≡ None }
-    requires fields { packet.now ≡ fields_of arrival.now.payload }
-    ensures { (pool : List ReflectorIn) → reflecting.named_in pool packet.now.your ≡ Some reflector.now
-        → result ≡ reflecting.reflect pool arrival.now }
-{
-    if packet.auth {
-        return Err(Test::AuthUnexpected);
-    }
-    if !packet.demand {
-        return Err(Test::NotDemand);
-    }
-    Ok(answered(reflector, packet, arrival))
 }
 
 /// The answer to a packet on the reflectors' port, 7784, or the first of that port's tests that it fails: Short, Version,
@@ -122,5 +98,11 @@ pub fn reflect(pool: &[Reflector], arrival: &Arrival) -> Result<Datagram, Test>
     let Some(reflector) = named(pool, packet.your) else {
         return Err(Test::YourUnknown);
     };
-    reflect_by(&reflector, &packet, arrival)
+    if packet.auth {
+        return Err(Test::AuthUnexpected);
+    }
+    if !packet.demand {
+        return Err(Test::NotDemand);
+    }
+    Ok(answered(&reflector, &packet, arrival))
 }

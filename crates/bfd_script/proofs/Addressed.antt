@@ -114,3 +114,9 @@ first_put (kind ∷ kinds) old {new} long is got was q =
     let put : (q : RowKind) → new q ≡ cond (is_eq (order.ghosts.cmp kind q)) true (old q) =
     rw (← is) got in
     rw (behind 1 (kind ∷ kinds)) (one_put kind kinds put was q)
+
+-- one above all others, with no set besides, is new
+pub next_new : (greatest kind : RowKind) (rising keys : List RowKind) {were : List RowKind} → AreUpTo greatest rising → length keys ≡ 0
+    → rising ++ keys ≡ were → is_lt (order.ghosts.cmp greatest kind) ≡ true → among were kind ≡ false
+next_new greatest kind rising [] all empty view above = cc (above_all greatest kind rising [] all above)
+next_new greatest kind rising (k ∷ keys) all empty view above = absurd (omega (arith, empty))

@@ -14,6 +14,7 @@ mod FieldsCommon
 pub mod Ascii
 pub mod Decimal
 pub mod FirstLine
+pub mod Continuing
 pub mod SideBySide
 pub mod Kept
 pub mod Cuts
@@ -22,3 +23,11 @@ pub mod Marks
 pub mod Octets
 pub mod Decoding
 pub mod Nibbles
+pub mod Visible
+pub mod Splitting
+pub mod Windowed
+pub mod Quads
+pub mod Usual
+pub mod Onward
+pub mod WindowDigits
+pub mod UsualRows

@@ -203,7 +203,7 @@ run_encoded (x0 ∷ x1 ∷ x2 ∷ x3 ∷ x4 ∷ x5 ∷ x6 ∷ x7 ∷ y ∷ ys) l
 
 -- ---- runs one after another
 
-abbrev joined : ℕ → ℕ → ℕ → Option ℕ → Option ℕ → Result (List ℕ) FromHexError → Result (List ℕ) FromHexError
+abbrev pub joined : ℕ → ℕ → ℕ → Option ℕ → Option ℕ → Result (List ℕ) FromHexError → Result (List ℕ) FromHexError
 joined i h l o p r = (digit_or_error h i o >>= λ a. digit_or_error l (i + 1) p >>= λ b. Ok (a * 16 + b)) >>= λ v. r >>= λ bytes. Ok
     (v ∷ bytes)
 
@@ -215,7 +215,7 @@ joined_more i j h l (Some a) None r q more f e = cc e
 joined_more i j h l None p r q more f e = cc e
 
 -- digits before digits
-appended : (i j : ℕ) (run rest : List ℕ) {front : List ℕ} (more : List ℕ) → decode_pairs i run ≡ Ok front
+pub appended : (i j : ℕ) (run rest : List ℕ) {front : List ℕ} (more : List ℕ) → decode_pairs i run ≡ Ok front
     → ((k : ℕ) → decode_pairs k rest ≡ Ok more) → decode_pairs j (run ++ rest) ≡ Ok (front ++ more)
 unfolding decode_pairs
 appended i j [] rest more e f = cc (f j)

@@ -104,7 +104,7 @@ parts_by : (field r s t : List ℕ) {pa pb pc : List ℕ} → slice_split is_dot
     → slice_split is_dot s ≡ pc ∷ slice_split is_dot t → dotted_of (slice_split is_dot field) ≡ quad_of pa pb pc t
 parts_by field r s t {pa} {pb} {pc} a b c = rw (a, b, c) (sym (four pa pb pc t))
 
-quad_is : (pa pb pc pd : List ℕ) {a b c d : ℕ} → octet_of pa ≡ Ok a → octet_of pb ≡ Ok b → octet_of pc ≡ Ok c → octet_of pd ≡ Ok d
+pub quad_is : (pa pb pc pd : List ℕ) {a b c d : ℕ} → octet_of pa ≡ Ok a → octet_of pb ≡ Ok b → octet_of pc ≡ Ok c → octet_of pd ≡ Ok d
     → quad_of pa pb pc pd ≡ Ok (V4 (((a * 256 + b) * 256 + c) * 256 + d))
 unfolding quad_of
 quad_is pa pb pc pd ea eb ec ed = rw (ea, eb, ec, ed) refl

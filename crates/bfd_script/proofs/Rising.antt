@@ -285,3 +285,16 @@ popped c {all} xs {es} {fs} were last key e =
         few = omega (arith, long, more, few);
       };
     }
+
+none_above : (k : ℕ) (xs : List SessionConfig) → AllByRecursion (λ x. discr_of x < k) xs → has_discr k xs ≡ false
+none_above k [] all = refl
+none_above k (x ∷ xs) all = rw (numbers_differ _ k all.0, none_above k xs all.1) refl
+
+-- one above all others, with no map besides, is new
+pub next_new : (k : ℕ) {xs seen : List SessionConfig} (es : List (ℕ × SessionConfig)) {before : List (ℕ × SessionConfig)}
+    → by_discr xs ++ es ≡ before → length es ≡ 0 → seen ≡ xs → AllByRecursion (λ x. discr_of x < k) seen
+    → has_discr k (values_of before) ≡ false
+next_new k {xs} [] view empty same all =
+    let values : values_of (by_discr xs ++ []) ≡ xs = values_more xs [] ∙ append-nil xs in
+    cc (ap (λ es. values_of es) view, values, none_above k xs (rw (← same) all))
+next_new k (e ∷ es) view empty same all = absurd (omega (arith, empty))

@@ -1,5 +1,5 @@
 -- What a function that may run out of memory answers, against a definition.
-use Rattle.std.specs.Prelude.{◌≡◌, Result, Ok, Err}
+use Rattle.std.specs.Prelude.{◌≡◌, ℕ, Result, Ok, Err}
 use Rattle.bfd_script.specs.declared.fields.fault.LineFault.{LineFault}
 use Rattle.bfd_script.specs.declared.fields.fault.BadLine.{BadLine}
 use Rattle.bfd_script.specs.declared.fields.fault.ReadFault.{ReadFault}
@@ -22,6 +22,11 @@ Refuses (line.Fault fault) read = read ≡ Err fault
 abbrev pub Gives : {X Y : Type 0} → (X → Y) → Result X ReadFault → Result Y LineFault → Type 0
 Gives view (Ok value) read = read ≡ Ok (view value)
 Gives view (Err refusal) read = Refuses refusal read
+
+-- why a text gives no script, in which the line of this number was refused
+abbrev pub fault_at : ℕ → ReadFault → ScriptFault
+fault_at number line.Memory = script.Memory
+fault_at number (line.Fault fault) = script.Bad (record { line = number; fault = fault })
 
 -- a refusal of a text is its first faulty line, unless memory ran out
 abbrev pub RefusesText : {X : Type 0} → ScriptFault → Result X BadLine → Type 0

@@ -1,8 +1,10 @@
 pub mod Reading
+pub mod Continued
 pub mod Report
 pub mod Doing
 pub mod Rows
 pub mod Sound
+pub mod Windows
 pub mod Tables
 pub mod Complaints
 pub mod Fields

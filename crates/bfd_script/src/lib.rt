@@ -8,16 +8,18 @@
 //! defines.
 //!
 //! Layers, lowest first: [`fields`] (lines, and the fields that they are cut into), [`line`] (what one line says), `places`, `rows`,
-//! `table` and `pool` (the sessions and the reflectors so far), `state` (what is kept from line to line), `reading` (the whole text);
+//! `table` and `pool` (the sessions and the reflectors so far), `state` (what is kept from line to line), `reading` (one line), `reader` (the text, piece by piece);
 //! alongside them `report`. The one spelling of a script is for `bfd_serve`.
 //!
 //! It stands on `bfd_session` and what that stands on, and on `byteorder`, `hex`, `itoa` and `memchr`.
 #![tactic(auto)]
 
+mod ahead;
 pub mod fields;
 pub mod line;
 mod places;
 mod pool;
+mod reader;
 mod reading;
 mod report;
 mod rows;
@@ -25,7 +27,7 @@ mod script;
 mod state;
 mod table;
 
-pub use reading::read;
+pub use reader::{Reader, read};
 pub use report::{lines, output_line};
 pub use script::Script;
 pub use table::keys_in;

@@ -15,11 +15,15 @@ mod points;
 mod seamless;
 mod secrets;
 mod trees;
+mod usual;
+mod usual_rows;
 mod verbs;
 mod words;
 
 pub use entries::{Entry, Line, read_values, rx_entry};
 pub(crate) use points::read_point;
 pub use secrets::key_fault;
+pub(crate) use usual::event_at;
+pub(crate) use usual_rows::point_at;
 pub use verbs::Verb;
 pub use words::{Place, Version, Word, word_named};

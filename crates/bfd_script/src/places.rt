@@ -1,5 +1,5 @@
 //! The selecting addresses of the sessions so far.
-ghost use Rattle.std.specs.Prelude.{◌≡◌, ◌||◌, [], IfOk, OnOk, length, true};
+ghost use Rattle.std.specs.Prelude.{◌≡◌, ◌||◌, [], IfOk, IsTrue, OnOk, false, length, true};
 ghost use Rattle.std.specs.BTreeSet.{contains};
 ghost use Rattle.bfd_demux.specs.Rows.{has_addresses, same_selector};
 ghost use Rattle.bfd_demux.specs.declared.row.RowKind.{RowKind as Kind};
@@ -99,6 +99,13 @@ impl Places {
             return is_in(&self.others, kind);
         }
         is_among(&self.rising, kind) || is_in(&self.others, kind)
+    }
+
+    /// Whether these addresses come behind all others, so that they are new, as one comparison shows.
+    pub(crate) fn is_next(&self, kind: &RowKind) -> bool
+        ensures { IsTrue result → among self.now kind.now ≡ false }
+    {
+        self.others.is_empty() && self.greatest.cmp(kind).is_lt()
     }
 
     /// These addresses and one more, all in the set.

@@ -1,16 +1,12 @@
-//! The whole text.
-ghost use Rattle.std.specs.Prelude.{IfOk, map};
+//! One line.
+ghost use Rattle.std.specs.Prelude.{map};
 ghost use Rattle.bfd_script.specs.Entries.{row_entry, rx_entry, valued, worded};
-ghost use Rattle.bfd_script.specs.Gives.{◌>>=◌ as on_to, Gives, GivesScript};
+ghost use Rattle.bfd_script.specs.Gives.{◌>>=◌ as on_to, Gives};
 ghost use Rattle.bfd_script.specs.Points.{p2p_row};
-ghost use Rattle.bfd_script.specs.Reading.{admitted, script_of, line_read};
-ghost use Rattle.bfd_script.specs.Sound.{IsScript};
+ghost use Rattle.bfd_script.specs.Reading.{admitted, line_read};
 
-use crate::fields::{
-    BadLine, LineFault, ReadFault, ScriptFault, first_line, line_text, split_fields,
-};
+use crate::fields::{LineFault, ReadFault, line_text, split_fields};
 use crate::line::{Word, read_point, read_values, rx_entry, word_named};
-use crate::script::Script;
 use crate::state::Reading;
 use std::alloc::Global;
 
@@ -91,7 +87,7 @@ fn take_fields(
 }
 
 /// Accepts one more line. `fields` is room for its fields.
-fn read_step<'a>(
+pub(crate) fn read_step<'a>(
     alloc: Global,
     live: bool,
     reading: &mut Reading,
@@ -103,33 +99,4 @@ fn read_step<'a>(
     let text = line_text(line)?;
     split_fields(text, fields)?;
     take_fields(alloc, live, reading, fields)
-}
-
-/// Reads a packet file: the script that it spells, or its first faulty line with that line's first fault.
-///
-/// In a `live` script the lines `rx` and `tick` may not stand, since packets and ticks come from outside.
-pub fn read(alloc: Global, bytes: &[u8], live: bool) -> Result<Script, ScriptFault>
-    ensures script { GivesScript result (script_of live bytes.now) }
-    ensures sound { IfOk result IsScript }
-{
-    let mut reading = Reading::new(alloc);
-    let mut fields = Vec::new(alloc);
-    let mut rest = bytes;
-    let mut number = 1;
-    while !rest.is_empty() {
-        let (line, after) = first_line(rest);
-        match read_step(alloc, live, &mut reading, line, &mut fields) {
-            Ok(()) => {}
-            Err(ReadFault::Fault(fault)) => {
-                return Err(ScriptFault::Bad(BadLine {
-                    line: number,
-                    fault,
-                }));
-            }
-            Err(ReadFault::Memory) => return Err(ScriptFault::Memory),
-        }
-        rest = after;
-        number += 1;
-    }
-    reading.finish(alloc, number)
 }

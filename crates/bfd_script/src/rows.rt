@@ -176,6 +176,13 @@ impl Rows {
         self.get(discr).is_some()
     }
 
+    /// Whether a session of this discriminator comes behind all others, so that it is new, as one comparison shows.
+    pub(crate) fn is_next(&self, discr: u32) -> bool
+        ensures { IsTrue result → has_discr discr (values_of self.now) ≡ false }
+    {
+        self.others.is_empty() && are_below(&self.rising, discr)
+    }
+
     /// The sessions with one more among them, whose discriminator is new, all in the map.
     fn with(self, config: SessionConfig) -> Result<Rows, AllocError>
         requires discr { has_discr (discr_of config) (values_of self) ≡ false }

@@ -1,10 +1,12 @@
 //! What is kept from line to line.
-ghost use Rattle.std.specs.Prelude.{◌≡◌, IfOk};
+ghost use Rattle.std.specs.Prelude.{◌≡◌, Err, IfOk, IsTrue, MatchResult, false};
+ghost use Rattle.bfd_session.specs.Kinds.{discr_of};
 ghost use Rattle.bfd_session.specs.Step.{IsFit};
 ghost use Rattle.bfd_script.specs.Gives.{Gives, GivesScript};
 ghost use Rattle.bfd_script.specs.Reading as reading;
 ghost use Rattle.bfd_script.specs.Reading.{admitted, text_ended, is_full, is_taken, start, with_config, with_event, with_key, with_keys};
 ghost use Rattle.bfd_script.specs.Reading.{with_reflector};
+ghost use Rattle.bfd_script.specs.Rows.{has_place};
 ghost use Rattle.bfd_script.specs.Ranges.{IsChain, IsEntry, IsEvent, IsKey, IsReflector, IsRow};
 ghost use Rattle.bfd_script.specs.Sound.{IsScript};
 
@@ -110,6 +112,48 @@ impl Reading {
         self.table.len() + self.pool.len() >= MOST_ROWS
     }
 
+    /// Whether a session comes behind all others, so that it is new, and there is room.
+    fn is_next(&self, config: &SessionConfig) -> bool
+        ensures discr { IsTrue result → is_taken (discr_of config.now) self.now ≡ false }
+        ensures place { IsTrue result → has_place config.now self.now.configs ≡ false }
+        ensures room { IsTrue result → is_full self.now ≡ false }
+    {
+        self.pool.len() == 0 && self.table.len() < MOST_ROWS && self.table.is_next(config)
+    }
+
+    /// Refuses a session whose discriminator or selecting addresses are present, and any where there are 65,536 rows.
+    #[inline(never)]
+    fn test_all(&self, config: &SessionConfig) -> Result<(), LineFault>
+        ensures { MatchResult result
+            (λ _. (is_taken (discr_of config.now) self.now ≡ false) × ((has_place config.now self.now.configs ≡ false)
+            × (is_full self.now ≡ false)))
+            (λ fault. with_config config.now self.now ≡ Err fault) }
+    {
+        if self.is_taken(config.discr()) {
+            return Err(LineFault::SameDiscr);
+        }
+        if self.table.has_place(config) {
+            return Err(LineFault::SameAddresses);
+        }
+        if self.is_full() {
+            return Err(LineFault::TooMany);
+        }
+        Ok(())
+    }
+
+    /// The same. Most sessions come behind all others, and need no other test.
+    fn test_row(&self, config: &SessionConfig) -> Result<(), LineFault>
+        ensures { MatchResult result
+            (λ _. (is_taken (discr_of config.now) self.now ≡ false) × ((has_place config.now self.now.configs ≡ false)
+            × (is_full self.now ≡ false)))
+            (λ fault. with_config config.now self.now ≡ Err fault) }
+    {
+        if self.is_next(config) {
+            return Ok(());
+        }
+        self.test_all(config)
+    }
+
     /// One more session: refused where its discriminator or its selecting addresses are present, and where there are 65,536
     /// rows. Nothing else is moved.
     pub(crate) fn add_row(&mut self, alloc: Global, config: SessionConfig) -> Result<(), ReadFault>
@@ -117,15 +161,7 @@ impl Reading {
         requires row { IsRow config }
         ensures { Gives (λ _. self.new) result (with_config config self.old) }
     {
-        if self.is_taken(config.discr()) {
-            return Err(ReadFault::Fault(LineFault::SameDiscr));
-        }
-        if self.table.has_place(&config) {
-            return Err(ReadFault::Fault(LineFault::SameAddresses));
-        }
-        if self.is_full() {
-            return Err(ReadFault::Fault(LineFault::TooMany));
-        }
+        self.test_row(&config)?;
         match self.table.add(alloc, config) {
             Ok(()) => Ok(()),
             Err(_) => {

@@ -1,5 +1,5 @@
 //! The table of sessions: unique by discriminator and by selecting addresses.
-ghost use Rattle.std.specs.Prelude.{◌≡◌, ◌||◌, ◌<◌, [], false, length, IfOk, None, OnErr, OnOk, Some, is_some};
+ghost use Rattle.std.specs.Prelude.{◌≡◌, ◌||◌, ◌<◌, [], false, length, IfOk, IsTrue, None, OnErr, OnOk, Some, is_some};
 ghost use Rattle.bfd_demux.specs.Rows.{same_selector};
 ghost use Rattle.bfd_demux.specs.declared.row.RowKind.{RowKind as Kind};
 ghost use Rattle.bfd_session.specs.Kinds.{discr_of};
@@ -154,6 +154,14 @@ impl Table {
         ensures { result ≡ has_place config.now self.now }
     {
         self.places.has(row_of(config).kind)
+    }
+
+    /// Whether a session comes behind all others, by its discriminator and by its selecting addresses, so that both are new.
+    pub(crate) fn is_next(&self, config: &SessionConfig) -> bool
+        ensures discr { IsTrue result → has_discr (discr_of config.now) self.now ≡ false }
+        ensures place { IsTrue result → has_place config.now self.now ≡ false }
+    {
+        self.rows.is_next(config.discr()) && self.places.is_next(&row_of(config).kind)
     }
 
     /// One more session, whose discriminator and selecting addresses are new. Fails only when out of memory, and is empty then.

@@ -15,7 +15,6 @@
 #![tactic(auto)]
 
 mod answering;
-mod coming;
 mod echoing;
 mod event;
 mod head;
@@ -29,7 +28,6 @@ mod showing;
 mod table;
 mod tail;
 
-pub use coming::{Coming, Reached};
 pub use event::{Answer, Event, SessionConfig, Shown};
 pub use law::{event_laws, tick_laws};
 pub use rows::{row_of, row_of_reflector, rows_of, table_of};

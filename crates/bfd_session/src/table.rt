@@ -3,31 +3,29 @@ ghost use Rattle.std.specs.Prelude.{◌≡◌, ◌<◌, ◌≤◌, ◌+◌, ◌=
 ghost use Rattle.std.specs.Prelude.{if◌then◌else◌, is_ok, length, map, position};
 ghost use Rattle.std.specs.List.{insert, list_any, remove};
 ghost use Rattle.bfd_demux.specs.Rows.{add_fault, build_fault};
-ghost use Rattle.bfd_packet.specs.HeaderTests.{first_failing};
 ghost use Rattle.bfd_packet.specs.Layout.{fields_of};
-ghost use Rattle.bfd_packet.specs.declared.arrival.Port.TheVariants.{Sbfd};
 ghost use Rattle.bfd_sbfd.specs.Reflect as reflecting;
 ghost use Rattle.bfd_session.specs.Arrivals as arrivals;
 ghost use Rattle.bfd_session.specs.Changes.{place_for, pool_place_for, with_session, without_session, with_pooled, without_pooled};
 ghost use Rattle.bfd_session.specs.Kinds.{discr_of};
-ghost use Rattle.bfd_session.specs.Reaching.{IsComing, IsNamed, IsTaken, Reaches, answered_as, coming_of};
+ghost use Rattle.bfd_session.specs.Reaching.{IsNamed, IsTaken, Reaches, sent_as};
 ghost use Rattle.bfd_session.specs.Rows as rows;
 ghost use Rattle.bfd_session.specs.Rows.{Ascends};
 ghost use Rattle.bfd_session.specs.Step.{CanTake};
 ghost use Rattle.bfd_session.specs.Tables.{IsSorted, members};
 ghost use Rattle.bfd_session.specs.declared.event.Event.{Event as EventIn};
 ghost use Rattle.bfd_session.specs.declared.event.SessionConfig.{SessionConfig as ConfigIn};
-ghost use Rattle.bfd_demux.specs.Selection.{first_header_failing, first_table_failing, target_of, fields_on};
+ghost use Rattle.bfd_demux.specs.Selection.{first_header_failing, first_table_failing, target_of};
 ghost use Rattle.std.specs.Result.{result_err};
 ghost use Rattle.bfd_num.specs.Counting.{IsBlankOf};
 
-use crate::{Coming, Event, Reached, SessionConfig, row_of, row_of_reflector, table_of};
+use crate::{SessionConfig, row_of, row_of_reflector, table_of};
 use bfd_demux::{AddFault, BuildFault, Demux, Target};
 use bfd_ghost::GhostList;
 use bfd_num::Steps;
-use bfd_packet::{Arrival, Control, Test};
+use bfd_packet::{Arrival, Test};
 use bfd_rules::Out;
-use bfd_sbfd::{Reflector, reflect_by};
+use bfd_sbfd::{Reflector, reflect};
 use std::alloc::{AllocError, Global};
 use std::marker::{Brand, Model};
 use std::sync::ledger::{Blank, Ledger};
@@ -200,15 +198,47 @@ impl Table {
         self.pool.as_slice()
     }
 
-    /// What the arrival is for, or the first of its port's tests up to selection that it fails, as `Demux::screen` says.
+    /// What the arrival is for, or the first of its port's tests up to selection that it fails, as `Demux::screen` says: an own event of
+    /// the session at a place, which accepts it, or a packet for the reflector at a place, which `reflected` answers. It allocates no
+    /// memory. It takes at most 34 steps, each the look at one entry of a sorted table.
     pub fn screen<L: Ledger>(&self, arrival: &Arrival, steps: &mut Steps<L>) -> Result<Target, Test>
         ensures tests { result_err result ≡ first_table_failing (rows.table_of self.now.configs self.now.pool) arrival.now }
         ensures target { IfOk result (λ target. Some target
             ≡ target_of (rows.table_of self.now.configs self.now.pool) arrival.now) }
         ensures header { OnOk result (first_header_failing arrival.now ≡ None) }
+        ensures coming { MatchResult result
+            (λ target. arrivals.comes_to (rows.table_of self.now.configs self.now.pool) arrival.now
+            ≡ arrivals.coming_to (Some target) arrival.now)
+            (λ test. arrivals.comes_to (rows.table_of self.now.configs self.now.pool) arrival.now ≡ arrivals.Discarded test) }
+        ensures reaches { IfOk result (λ target. Reaches self.now.configs self.now.pool arrival.now target) }
         ensures cost { steps.new ≤ steps.old + 34 }
     {
         self.demux.screen(arrival, steps)
+    }
+
+    /// The same, with a counter of steps of its own.
+    pub fn screen_uncounted(&self, arrival: &Arrival) -> Result<Target, Test>
+        ensures coming { MatchResult result
+            (λ target. arrivals.comes_to (rows.table_of self.now.configs self.now.pool) arrival.now
+            ≡ arrivals.coming_to (Some target) arrival.now)
+            (λ test. arrivals.comes_to (rows.table_of self.now.configs self.now.pool) arrival.now ≡ arrivals.Discarded test) }
+        ensures reaches { IfOk result (λ target. Reaches self.now.configs self.now.pool arrival.now target) }
+    {
+        screened::<Brand>(self, arrival, Blank::new(1))
+    }
+
+    /// What the reflector at this place, which the packet names, makes of it: an answer in its name, or the first of its port's tests
+    /// that the packet fails, as `reflect` says (RFC 7880 section 7.2). It allocates no memory.
+    #[inline(never)]
+    pub fn reflected(&self, place: u32, arrival: &Arrival) -> Result<Out, Test>
+        requires named { IsNamed self.now.pool place arrival.now }
+        ensures { result ≡ sent_as (fields_of arrival.now.payload).your (reflecting.reflect self.now.pool arrival.now) }
+    {
+        let discr = self.pool[place as usize].discr;
+        match reflect(&self.pool, arrival) {
+            Ok(datagram) => Ok(Out::Sent { discr, datagram }),
+            Err(test) => Err(test),
+        }
     }
 
     /// The place of the session with this discriminator; a reflector's names no session. An event that every session accepts may be
@@ -219,82 +249,6 @@ impl Table {
             → IsTaken self.now.configs place event) }
     {
         self.roster.place_of(discr)
-    }
-
-    // What the reflector at this place makes of a packet that names it.
-    fn answered(&self, place: u32, arrival: &Arrival, fields: &Option<Control>) -> Reached
-        requires named { IsNamed self.now.pool place arrival.now }
-        requires fields { fields.now ≡ Some (fields_of arrival.now.payload) }
-        ensures { coming_of arrival.now result
-            ≡ answered_as (fields_of arrival.now.payload).your (reflecting.reflect self.now.pool arrival.now) }
-    {
-        let Some(packet) = fields else {
-            unreachable!();
-        };
-        let reflector = &self.pool[place as usize];
-        match reflect_by(reflector, packet, arrival) {
-            Ok(datagram) => Reached::Answered(Out::Sent {
-                discr: packet.your,
-                datagram,
-            }),
-            Err(test) => Reached::Discarded(test),
-        }
-    }
-
-    // What a selected arrival resolves to.
-    fn direct(&self, target: Target, arrival: &Arrival, fields: &Option<Control>) -> Reached
-        requires reaches { Reaches self.now.configs self.now.pool arrival.now target }
-        requires fields { fields.now ≡ fields_on arrival.now.port arrival.now }
-        ensures { IsComing self.now.configs self.now.pool arrival.now
-            (arrivals.coming_to (Some target) arrival.now) (coming_of arrival.now result) }
-    {
-        match target {
-            Target::Session(place) => Reached::Packet(place),
-            Target::Echo(place, sequence) => Reached::Returned(place, sequence),
-            Target::Reflector(place) => self.answered(place, arrival, fields),
-        }
-    }
-
-    /// What the arrival resolves to, as `comes_to` says it.
-    pub fn reach<L: Ledger>(&self, arrival: &Arrival, steps: &mut Steps<L>) -> Reached
-        ensures coming { IsComing self.now.configs self.now.pool arrival.now
-            (arrivals.comes_to (rows.table_of self.now.configs self.now.pool) arrival.now) (coming_of arrival.now result) }
-        ensures cost { steps.new ≤ steps.old + 34 }
-    {
-        match self.demux.screen_fields(arrival, steps) {
-            Ok((target, fields)) => self.direct(target, arrival, &fields),
-            Err(test) => Reached::Discarded(test),
-        }
-    }
-
-    /// What the arrival resolves to. One that fails a test up to selection is discarded by the first that it fails, as `Demux::screen`
-    /// has them; a packet for a reflector is answered by it, or discarded by the first of its tests that fails; and any other is an
-    /// own event of a session, which accepts it. It allocates no memory. It takes at most 34 steps, each the look at one entry of a sorted
-    /// table.
-    pub fn comes_to<L: Ledger>(&self, arrival: Arrival, steps: &mut Steps<L>) -> Coming
-        ensures coming { IsComing self.now.configs self.now.pool arrival
-            (arrivals.comes_to (rows.table_of self.now.configs self.now.pool) arrival) result }
-        ensures cost { steps.new ≤ steps.old + 34 }
-    {
-        let reached = self.reach(&arrival, steps);
-        coming(reached, arrival)
-    }
-
-    /// The same, with a counter of steps of its own.
-    pub fn comes_to_uncounted(&self, arrival: Arrival) -> Coming
-        ensures { IsComing self.now.configs self.now.pool arrival
-            (arrivals.comes_to (rows.table_of self.now.configs self.now.pool) arrival) result }
-    {
-        let reached = self.reach_uncounted(&arrival);
-        coming(reached, arrival)
-    }
-
-    /// `reach` with a counter of steps of its own.
-    pub fn reach_uncounted(&self, arrival: &Arrival) -> Reached
-        ensures { IsComing self.now.configs self.now.pool arrival.now
-            (arrivals.comes_to (rows.table_of self.now.configs self.now.pool) arrival.now) (coming_of arrival.now result) }
-    {
-        reached::<Brand>(self, arrival, Blank::new(1))
     }
 }
 
@@ -374,23 +328,14 @@ impl Table {
     }
 }
 
-// What an arrival resolves to that reaches this.
-fn coming(reached: Reached, arrival: Arrival) -> Coming
-    ensures { result ≡ coming_of arrival reached }
-{
-    match reached {
-        Reached::Discarded(test) => Coming::Discarded(test),
-        Reached::Answered(out) => Coming::Answered(out),
-        Reached::Packet(place) => Coming::Own(place, Event::Packet(arrival)),
-        Reached::Returned(place, sequence) => Coming::Own(place, Event::Returned(sequence)),
-    }
-}
-
-// What an arrival reaches, with this counter.
-fn reached<L: Ledger>(table: &Table, arrival: &Arrival, blank: Blank) -> Reached
+// What an arrival is for, with this counter.
+fn screened<L: Ledger>(table: &Table, arrival: &Arrival, blank: Blank) -> Result<Target, Test>
     requires blank { IsBlankOf L.name L.parts blank.name blank.parts }
-    ensures { IsComing table.now.configs table.now.pool arrival.now
-        (arrivals.comes_to (rows.table_of table.now.configs table.now.pool) arrival.now) (coming_of arrival.now result) }
+    ensures coming { MatchResult result
+        (λ target. arrivals.comes_to (rows.table_of table.now.configs table.now.pool) arrival.now
+        ≡ arrivals.coming_to (Some target) arrival.now)
+        (λ test. arrivals.comes_to (rows.table_of table.now.configs table.now.pool) arrival.now ≡ arrivals.Discarded test) }
+    ensures reaches { IfOk result (λ target. Reaches table.now.configs table.now.pool arrival.now target) }
 {
-    table.reach(arrival, &mut Steps::<L>::new(blank))
+    table.screen(arrival, &mut Steps::<L>::new(blank))
 }

@@ -3,7 +3,8 @@ pub use Rattle.std.proofs.Common.{List, None, Ok, Option, Some, [], append-nil, 
 pub use Rattle.std.proofs.Common.{◌∙◌, ◌≡◌, ◌≢◌, ◌≤◌, ◌⊎◌}
 pub use Rattle.std.specs.Prelude.{IfSome, min, ◌+◌, ◌-◌, ◌^◌}
 pub use Rattle.bfd_edge.specs.Faults.{Rose, risen}
-pub use Rattle.bfdd.specs.Serving.{Comes, Edges, HasNoScript, HasServedScript, IsFaulty, IsOverlong, IsServed, IsServedToFinish, edges_of}
+pub use Rattle.bfdd.specs.Serving.{Comes, Edges, HasNoScript, HasServedScript, IsServed, IsServedToFinish, edges_of}
+pub use Rattle.bfdd.specs.Sources.{IsFaulty, IsOverlong}
 pub use Rattle.bfdd.specs.Serving.{status_of}
 pub use Rattle.bfdd.specs.Text.{Wanted, complaint_line, most_bytes, wanted, wanted_of}
 pub use Rattle.bfdd.specs.Words.{OfServing, is_reading, reads, serves}

@@ -23,7 +23,7 @@ comes_so : (job : Job) (script : Lists) (old new : Edges) (w : Wanted) → serve
 comes_so job script old new w serving (inl served) = rw served.status (finish_so job serving served.end)
 comes_so job script old new w serving (inr portless) = rw portless.nothing serving
 
-unread_so : (job : Job) {left right : Option (List ℕ)} {w : Wanted} → reads job ≡ true → IsFaulty left right w ⊎ IsOverlong left right w
+unread_so : (job : Job) {left right : Option (List ℕ)} {w : Wanted} → reads job ≡ true → IsFaulty true left right w ⊎ IsOverlong left right w
     → IsEndOf (Some job) w.status
 unread_so job reading (inl faulty) = rw faulty.complained reading
 unread_so job reading (inr long) = rw long.nothing reading

@@ -7,6 +7,7 @@ pub mod Decimal
 pub mod Naming
 pub mod Leading
 pub mod Answering
+pub mod Reading
 pub mod ServedText
 pub mod Taking
 pub mod RunReport

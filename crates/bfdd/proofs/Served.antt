@@ -16,7 +16,7 @@ same_script : {bytes more : List ℕ} {one other : Lists} → bytes ≡ more →
 same_script same first second = cc
 
 no_script : {bytes : List ℕ} {right : Option (List ℕ)} {w : Wanted} {script : Lists}
-    → IsFaulty (Some bytes) right w ⊎ IsOverlong (Some bytes) right w
+    → IsFaulty true (Some bytes) right w ⊎ IsOverlong (Some bytes) right w
     → length bytes ≤ most_bytes → script_of true bytes ≡ Ok script → {X : Type 0} → X
 no_script {bytes} {right} (inl faulty) few spelled = cc (read_whole bytes right faulty.bytes faulty.read faulty.end, faulty.spelled)
 no_script (inr long) few spelled = absurd (omega (arith, few, long.long))

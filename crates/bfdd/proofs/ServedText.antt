@@ -12,7 +12,8 @@ use Rattle.bfdd.specs.declared.words.job.Job.{Job}
 use Rattle.bfdd.specs.declared.words.job.Job.TheVariants.{Serve}
 use Rattle.bfdd.specs.declared.job.status.Status.TheVariants.{TooLarge}
 use Rattle.bfdd.specs.Answers.{HasText}
-use Rattle.bfdd.specs.Serving.{IsLive, status_of}
+use Rattle.bfdd.specs.Serving.{status_of}
+use Rattle.bfdd.specs.Sources.{IsRead}
 use Rattle.bfdd.specs.Text.{Wanted, bare, most_bytes, unserved, wanted_of}
 use Rattle.bfdd.specs.Words.{serves}
 
@@ -35,7 +36,7 @@ unwanted_by false (Err bad) answer short is = cc
 unwanted_by true read answer short is = cc
 
 pub unwanted : (job : Job) (left : Option (List ℕ)) {right : Option (List ℕ)} {script : Lists} (answer : Wanted) → serves job ≡ true
-    → IsLive left right script
+    → IsRead true left right script
     → IfSome (wanted_of job left) (λ w. answer ≡ w)
 unwanted (Serve hands turns ticks journal) None answer serving live = tt
 unwanted (Serve hands turns ticks journal) (Some bytes) {right} {script} answer serving live =

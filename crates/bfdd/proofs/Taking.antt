@@ -1,8 +1,11 @@
 -- What was read, over several calls.
-use Rattle.std.proofs.Common.{ℕ, ◌+◌, ◌≤◌, List, [], ◌++◌, length, Option, arith, length-append}
+use Rattle.std.proofs.Common.{◌≡◌, ℕ, ◌+◌, ◌≤◌, Bool, List, [], ◌++◌, length, Option, ap, sym, ◌∙◌, arith, append_assoc, length-append}
 use Rattle.std.specs.Io.KnownBytes.{Consumes}
 use Rattle.std.proofs.KnownBytes.{Consumes-nil, Consumes-trans}
+use Rattle.bfd_script.specs.Continued.{Progress, goes_on}
+use Rattle.bfd_script.specs.Reading.{script_of}
 use Rattle.bfdd.specs.Outside.{ConsumesAtMost}
+use Rattle.bfdd.specs.Sources.{HasTaken}
 
 -- nothing was read
 pub read_nothing : (most : ℕ) (known : Option (List ℕ)) → ConsumesAtMost most known known
@@ -12,3 +15,16 @@ read_nothing most known = ([], Consumes-nil known, omega arith)
 pub read_more : (most : ℕ) (first next last : Option (List ℕ)) (a b : List ℕ) → Consumes first next a → Consumes next last b
     → length a + length b ≤ most → ConsumesAtMost most first last
 read_more most first next last a b one two fits = (a ++ b, Consumes-trans first next last a b one two, omega (arith, length-append a b))
+
+-- .. and a reader took it
+pub taken_more : (live : Bool) (first next last : Option (List ℕ)) (count more : ℕ) (old new : Progress) (piece : List ℕ)
+    → HasTaken live first next count old → Consumes next last piece → length piece ≡ more
+    → new.number + length new.begun ≤ old.number + length old.begun + length piece
+    → ((rest : List ℕ) → goes_on new rest ≡ goes_on old (piece ++ rest)) → HasTaken live first last (count + more) new
+taken_more live first next last count more old new piece taken read long few told = record {
+  bytes = taken.bytes ++ piece;
+  read = Consumes-trans first next last taken.bytes piece taken.read read;
+  long = omega (arith, length-append taken.bytes piece, taken.long, long);
+  number = omega (arith, taken.number, few, long);
+  told = λ rest. told rest ∙ taken.told (piece ++ rest) ∙ ap (script_of live) (sym (append_assoc taken.bytes piece rest));
+}

@@ -9,6 +9,7 @@ pub mod Answers
 pub mod Hands
 pub mod Held
 pub mod Outside
+pub mod Sources
 pub mod Serving
 pub mod Codes
 pub mod Reports

@@ -3,7 +3,8 @@ use Rattle.std.specs.Prelude.{◌≡◌, ◌⊎◌, ◌≤◌, ℕ, true, List, 
 use Rattle.std.specs.Io.KnownBytes.{Consumes, IsAtEnd}
 use Rattle.bfdd.specs.declared.words.job.Job.{Job}
 use Rattle.bfdd.specs.declared.words.job.Job.TheVariants.{Serve}
-use Rattle.bfdd.specs.Serving.{Edges, HasNoScript, HasServedScript, IsOverlong}
+use Rattle.bfdd.specs.Serving.{Edges, HasNoScript, HasServedScript}
+use Rattle.bfdd.specs.Sources.{IsOverlong}
 use Rattle.bfdd.specs.Text.{Wanted, answer_to, most_bytes}
 use Rattle.bfdd.specs.Words.{reads}
 

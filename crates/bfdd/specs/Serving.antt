@@ -16,12 +16,10 @@ use Rattle.bfd_shard.specs.Shard.{Shard}
 use Rattle.bfdd.specs.declared.words.job.Job.{Job}
 use Rattle.bfdd.specs.declared.words.job.Job.TheVariants.{Serve}
 use Rattle.bfdd.specs.declared.job.serving.Numbers.{Numbers}
-use Rattle.bfdd.specs.declared.job.serving.Unread.{Unread}
-use Rattle.bfdd.specs.declared.job.serving.Unread.TheVariants.{Reported, Failed, Memory}
 use Rattle.bfdd.specs.declared.job.status.Status.{Status}
 use Rattle.bfdd.specs.declared.job.status.Status.TheVariants as status
 use Rattle.bfdd.specs.declared.job.status.Status.TheVariants.{Done, BadLine, PortFault, LinkFault, TooLarge, JournalFull, Turns, ClockFault}
-use Rattle.bfdd.specs.Answers.{IsAnswer}
+use Rattle.bfdd.specs.Sources.{IsFaulty, IsOverlong, IsRead}
 use Rattle.bfdd.specs.Text.{Wanted, bare, complaint_line, ends, most_bytes}
 
 -- the status of a run that ended so
@@ -71,45 +69,15 @@ pub record IsPortless (old new : Edges) (w : Wanted) : Type 0 where
 abbrev pub Comes : Job → Lists → Edges → Edges → Wanted → Type 0
 Comes job script old new w = IsServed job script old new w ⊎ IsPortless old new w
 
--- a source that was read to its end, and the script that its bytes spell when packets and ticks come from outside
-pub record IsLive (left right : Option (List ℕ)) (script : Lists) : Type 0 where
-  pub bytes : List ℕ
-  pub read : Consumes left right bytes
-  pub end : IsAtEnd right
-  pub few : length bytes ≤ most_bytes
-  pub spelled : script_of true bytes ≡ Ok script
-
--- .. if they spell no script
-pub record IsFaulty (left right : Option (List ℕ)) (w : Wanted) : Type 0 where
-  pub bytes : List ℕ
-  pub read : Consumes left right bytes
-  pub end : IsAtEnd right
-  pub few : length bytes ≤ most_bytes
-  pub bad : FaultyLine
-  pub spelled : script_of true bytes ≡ Err bad
-  pub complained : w ≡ ends (BadLine bad.line bad.fault) (complaint_line bad)
-
--- .. if there are too many bytes
-pub record IsOverlong (left right : Option (List ℕ)) (w : Wanted) : Type 0 where
-  pub long : IfSome left (λ bytes. most_bytes < length bytes)
-  pub nothing : w ≡ bare TooLarge
-
--- why no script was read, and whether the count of the source rose
-abbrev pub IsUnread : Option (List ℕ) → Option (List ℕ) → ℕ → ℕ → Unread → Type 0
-IsUnread left right before now (Reported answer) = (IsFaulty left right answer ⊎ IsOverlong left right answer) × IsAnswer answer
-    × (now ≡ before)
-IsUnread left right before now Failed = Rose before now
-IsUnread left right before now Memory = now ≡ before
-
 -- the result of `serve`, if it read its script
 pub record HasServedScript (job : Job) (left right : Option (List ℕ)) (old new : Edges) (w : Wanted) : Type 0 where
   pub script : Lists
-  pub live : IsLive left right script
+  pub live : IsRead true left right script
   pub comes : Comes job script old new w
 
 -- .. and if it read none: no link was opened and no tick was asked for
 pub record HasNoScript (left right : Option (List ℕ)) (old new : Edges) (w : Wanted) : Type 0 where
-  pub unread : IsFaulty left right w ⊎ IsOverlong left right w
+  pub unread : IsFaulty true left right w ⊎ IsOverlong left right w
   pub same : new ≡ old
 
 -- if these bytes spell a script, it was served to a finish, which is the status, or memory ran out

@@ -8,11 +8,12 @@ ghost use Rattle.bfd_script.specs.Doing.{asking};
 ghost use Rattle.bfd_script.specs.declared.line.entries.Line.TheVariants.{Rx};
 ghost use Rattle.bfd_replay.specs.Planned.{route_is, happening, happening_by, IsMet};
 
+use bfd_demux::Target;
 use bfd_num::Moment;
 use bfd_packet::Arrival;
 use bfd_rules::{Out, Refusal};
 use bfd_script::line::Line;
-use bfd_session::{Answer, Coming, Event, Table};
+use bfd_session::{Answer, Event, Table};
 use bfd_shard::ShardEvent;
 
 /// What a line is to the sessions.
@@ -31,14 +32,22 @@ fn arrived(table: &Table, moment: Moment, arrival: Arrival) -> Route
     ensures route { route_is result ≡ happening table.now.configs table.now.pool (Rx moment arrival) }
     ensures met { IsMet table.now.configs (route_is result) }
 {
-    match table.comes_to_uncounted(arrival) {
-        Coming::Discarded(test) => Route::Rests(Answer::Dropped(test)),
-        Coming::Answered(out) => Route::Answers(out),
-        Coming::Own(place, event) => Route::Happens(ShardEvent::Own {
+    match table.screen_uncounted(&arrival) {
+        Ok(Target::Session(place)) => Route::Happens(ShardEvent::Own {
             place,
             moment,
-            event,
+            event: Event::Packet(arrival),
         }),
+        Ok(Target::Echo(place, sequence)) => Route::Happens(ShardEvent::Own {
+            place,
+            moment,
+            event: Event::Returned(sequence),
+        }),
+        Ok(Target::Reflector(place)) => match table.reflected(place, &arrival) {
+            Ok(out) => Route::Answers(out),
+            Err(test) => Route::Rests(Answer::Dropped(test)),
+        },
+        Err(test) => Route::Rests(Answer::Dropped(test)),
     }
 }
 

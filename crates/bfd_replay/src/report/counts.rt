@@ -1,5 +1,5 @@
 //! What outputs name, and how many packets outputs and answers report.
-ghost use Rattle.std.specs.Prelude.{◌≡◌, ◌≤◌, ◌+◌, IfOk, length, sum_by};
+ghost use Rattle.std.specs.Prelude.{◌≡◌, ◌≤◌, ◌⊎◌, ◌+◌, ◌^◌, IfOk, OnErr, length, sum_by};
 ghost use Rattle.bfd_rules.specs.Names as names;
 ghost use Rattle.bfd_script.specs.Report.{packets_sent_by, dropped_by};
 
@@ -62,6 +62,7 @@ pub fn dropped(answer: &Answer) -> u64
 pub(crate) fn added(counts: (u64, u64), more: (u64, u64)) -> Result<(u64, u64), AllocError>
     ensures sent { IfOk result (λ sums. sums.0 ≡ counts.0 + more.0) }
     ensures dropped { IfOk result (λ sums. sums.1 ≡ counts.1 + more.1) }
+    ensures many { OnErr result ((2 ^ 64 ≤ counts.0 + more.0) ⊎ (2 ^ 64 ≤ counts.1 + more.1)) }
 {
     match (counts.0.checked_add(more.0), counts.1.checked_add(more.1)) {
         (Some(txs), Some(drops)) => Ok((txs, drops)),

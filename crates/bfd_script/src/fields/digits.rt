@@ -5,13 +5,13 @@ ghost use Rattle.hex.specs.Hex.{decode_pairs, decode_sized, encode_lower};
 use std::simd::prelude::*;
 
 /// How many digits are read side by side.
-const DIGITS: usize = 16;
+pub(crate) const DIGITS: usize = 16;
 
 /// How many bytes they write, and are written side by side.
 pub const BYTES: usize = 8;
 
 /// The bytes that a run of digits of both cases writes: None where one is no digit.
-fn bytes_of_run(run: &[u8]) -> Option<[u8; BYTES]>
+pub(crate) fn bytes_of_run(run: &[u8]) -> Option<[u8; BYTES]>
     requires { length run.now ≡ 16 }
     ensures { IfSome result (λ bytes. (i : ℕ) → decode_pairs i run.now ≡ Ok bytes) }
 {

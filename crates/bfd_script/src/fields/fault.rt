@@ -2,6 +2,7 @@
 ghost use Rattle.std.specs.Prelude.{◌≡◌, Some};
 ghost use Rattle.bfd_script.specs.declared.fields.fault.ReadFault.TheVariants.{Memory};
 ghost use Rattle.bfd_script.specs.Complaints.{fault_name, complaint};
+ghost use Rattle.bfd_script.specs.Gives.{fault_at};
 
 use std::alloc::{AllocError, AllocFailed};
 use std::fmt;
@@ -120,6 +121,18 @@ pub enum ScriptFault {
 pub enum ReadFault {
     Fault(LineFault),
     Memory,
+}
+
+impl ReadFault {
+    /// Why a text gives no script, in which the line of this number was not accepted.
+    pub(crate) fn at(self, line: u64) -> ScriptFault
+        ensures { result ≡ fault_at line self }
+    {
+        match self {
+            ReadFault::Fault(fault) => ScriptFault::Bad(BadLine { line, fault }),
+            ReadFault::Memory => ScriptFault::Memory,
+        }
+    }
 }
 
 impl From<LineFault> for ReadFault {

@@ -1,11 +1,11 @@
 //! Lines, fields and numbers.
-ghost use Rattle.std.specs.Prelude.{◌≡◌, ◌+◌, ◌-◌, ◌++◌, ◌==◌, ◌<◌, ◌≤◌, ◌∷◌, [], ◌&&◌, ◌||◌, Err, IfOk, IfSome, IsTrue, MatchOption, Ok};
+ghost use Rattle.std.specs.Prelude.{◌≡◌, ◌+◌, ◌-◌, ◌++◌, ◌==◌, ◌<◌, ◌≤◌, ◌∷◌, [], ◌&&◌, ◌||◌, Err, IfOk, IfSome, IsTrue, MatchOption, None, Ok};
 ghost use Rattle.std.specs.Prelude.{OnOk, drop, if◌then◌else◌, length, map, nat_lt, not, slice_index, take, true};
 ghost use Rattle.std.specs.Simd.Lanes.{mask_l};
 ghost use Rattle.std.specs.List.{list_all, position_or_len, slice_split};
 ghost use Rattle.std.specs.Char.{is_ascii_digit};
 ghost use Rattle.std.specs.Str.Parse.{digits_value};
-ghost use Rattle.bfd_script.specs.Fields.{split_fields, is_printable, lines_of, number_in, line_text};
+ghost use Rattle.bfd_script.specs.Fields.{IsOpen, split_fields, is_printable, number_in, line_text};
 ghost use Rattle.bfd_script.specs.Gives.{SeesField};
 ghost use Rattle.bfd_script.specs.declared.fields.fault.LineFault.TheVariants.{OutOfRange};
 
@@ -27,19 +27,18 @@ const FRONT: usize = 64;
 /// How many digits surely write a number of 64 bits.
 const MOST_DIGITS: usize = 18;
 
-/// The first line without its LF, and the text after it.
-#[tactic(auto, using(crate::proofs::FirstLine::first_of_more, crate::proofs::FirstLine::the_last))]
-pub fn first_line(text: &[u8]) -> (&[u8], &[u8])
-    requires { 0 < length text.now }
-    ensures lines { lines_of text.now ≡ result.0.now ∷ lines_of result.1.now }
-    ensures shorter { length result.1.now < length text.now }
+/// The first line of a text without its LF, and the text after it; none where no LF ends it.
+#[tactic(auto, using(crate::proofs::FirstLine::first_of_more, crate::proofs::FirstLine::no_end))]
+pub fn whole_line(text: &[u8]) -> Option<(&[u8], &[u8])>
+    ensures line { IfSome result (λ line. (text.now ≡ line.0.now ++ 10 ∷ line.1.now) × IsOpen line.0.now) }
+    ensures inside { result ≡ None → IsOpen text.now }
 {
     match memchr(b'\n', text) {
         Some(end) => {
             let (_, rest) = text.split_at(end + 1);
-            (&text[..end], rest)
+            Some((&text[..end], rest))
         }
-        None => (text, &[]),
+        None => None,
     }
 }
 

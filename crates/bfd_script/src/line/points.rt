@@ -17,22 +17,22 @@ const PAIR_VALUES: usize = 11;
 /// Which session it is, and between which addresses.
 #[derive(Clone, Copy)]
 pub(crate) struct Ends {
-    discr: u32,
-    role: Role,
-    iface: u32,
-    local: Addr,
-    remote: Addr,
+    pub(crate) discr: u32,
+    pub(crate) role: Role,
+    pub(crate) iface: u32,
+    pub(crate) local: Addr,
+    pub(crate) remote: Addr,
 }
 
 /// Who begins, and the intervals in microseconds.
 #[derive(Clone, Copy)]
 pub(crate) struct Timing {
-    active: bool,
-    tx: u32,
-    rx: u32,
-    mult: u8,
-    echo: u32,
-    seed: u32,
+    pub(crate) active: bool,
+    pub(crate) tx: u32,
+    pub(crate) rx: u32,
+    pub(crate) mult: u8,
+    pub(crate) echo: u32,
+    pub(crate) seed: u32,
 }
 
 /// Over how many hops.
@@ -58,7 +58,7 @@ fn active_named(field: &[u8]) -> Result<bool, LineFault>
 }
 
 /// Whether the Echo function may have this interval.
-fn may_echo(role: Role, every: u64) -> bool
+pub(crate) fn may_echo(role: Role, every: u64) -> bool
     ensures { result ≡ is_echo_interval role every }
 {
     match role {
@@ -147,8 +147,11 @@ fn read_timing(role: Role, values: &[&[u8]]) -> Result<Timing, LineFault>
 }
 
 /// The session of both parts.
-fn config(ends: Ends, timing: Timing) -> SessionConfig
-    ensures { result ≡ config_by ends timing }
+pub(crate) fn config(ends: Ends, timing: Timing) -> SessionConfig
+    requires ends { AreEnds ends }
+    requires timing { IsTiming ends.role timing }
+    ensures value { result ≡ config_by ends timing }
+    ensures sound { IsFit result × IsRow result }
 {
     SessionConfig::PointToPoint(Config {
         discr: ends.discr,

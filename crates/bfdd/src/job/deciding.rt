@@ -12,8 +12,9 @@ ghost use Rattle.bfd_serve.specs.Linking.{AreShut};
 ghost use Rattle.bfdd.specs.Ranges.{IsJob};
 
 use crate::job::answer::Answer;
-use crate::job::input::{InputFault, bytes_for};
-use crate::job::jobs::answer_to;
+use crate::job::asking::reads;
+use crate::job::input::{NoScript, script_in};
+use crate::job::jobs::{answer_alone, answer_on};
 use crate::job::serving::{Numbers, serve_answer};
 use crate::job::status::Status;
 use crate::words::Job;
@@ -22,7 +23,44 @@ use std::alloc::Global;
 use std::sync::Wait;
 use std::thread::Threads;
 
+/// What a job has to write that reads a script and doesn't serve it.
+#[tactic(auto, using(
+    crate::proofs::Reading::read_wanted,
+    crate::proofs::Reading::read_reports,
+    crate::proofs::Reading::read_answer,
+    crate::proofs::Reading::none_reports,
+))]
+fn answer_of_script<R: Wait, S: Source>(
+    rt: &R,
+    alloc: Global,
+    job: &Job,
+    source: &mut S,
+) -> Result<Answer, Fault>
+    requires ranges { IsJob job.now }
+    requires reading { reads job.now ≡ true }
+    requires closed { serves job.now ≡ false }
+    ensures answer { IfOk result (λ answer. IfSome (wanted_of job.now (S.left source.old)) (λ w. answer ≡ w)) }
+    ensures reports { IfOk result (ReportsBytes job.now (S.left source.old) (S.left source.new)) }
+    ensures sound { IfOk result IsAnswer }
+    ensures end { IfOk result (λ answer. answer.status ≡ Status.Done → IsAtEnd (S.left source.new)) }
+    ensures failed { IsErrOf result Fault.Failed → Rose (S.faults source.old) (S.faults source.new) }
+    ensures at_most { ConsumesAtMost (most_bytes + 1) (S.left source.old) (S.left source.new) }
+    ensures calm { IfOk result (λ answer. S.faults source.new ≡ S.faults source.old) }
+    ensures calm_memory { IsErrOf result Fault.Memory → S.faults source.new ≡ S.faults source.old }
+{
+    match script_in(alloc, false, source) {
+        Ok(script) => match answer_on(rt, alloc, job, script) {
+            Ok(answer) => Ok(answer),
+            Err(_) => Err(Fault::Memory),
+        },
+        Err(NoScript::Reported(answer)) => Ok(answer),
+        Err(NoScript::Failed) => Err(Fault::Failed),
+        Err(NoScript::Memory) => Err(Fault::Memory),
+    }
+}
+
 /// What a job other than `serve` has to write, after it has read what it reads.
+#[tactic(auto, using(crate::proofs::Taking::read_nothing, crate::proofs::Reading::alone_reports, crate::proofs::Answering::is_answer))]
 fn decided_answer<R: Threads + Wait + Sync, G: Gate + Sync, S: Source>(
     rt: &R,
     alloc: Global,
@@ -44,13 +82,10 @@ fn decided_answer<R: Threads + Wait + Sync, G: Gate + Sync, S: Source>(
     ensures calm { IfOk result (λ answer. S.faults source.new ≡ S.faults source.old) }
     ensures calm_memory { IsErrOf result Fault.Memory → S.faults source.new ≡ S.faults source.old }
 {
-    let bytes = match bytes_for(alloc, job, source) {
-        Ok(bytes) => bytes,
-        Err(InputFault::TooLarge) => return Ok(Answer::bare(alloc, Status::TooLarge)),
-        Err(InputFault::Failed) => return Err(Fault::Failed),
-        Err(InputFault::Memory) => return Err(Fault::Memory),
-    };
-    match answer_to(rt, alloc, job, bytes, gate) {
+    if reads(job) {
+        return answer_of_script(rt, alloc, job, source);
+    }
+    match answer_alone(rt, alloc, job, gate) {
         Ok(answer) => Ok(answer),
         Err(_) => Err(Fault::Memory),
     }

@@ -7,19 +7,17 @@ ghost use Rattle.bfd_serve.specs.Linking.{AreShut};
 ghost use Rattle.bfdd.specs.Ranges.{IsJob};
 ghost use Rattle.bfdd.specs.Answers.{IsAnswer};
 ghost use Rattle.bfdd.specs.Outside.{ConsumesAtMost};
-ghost use Rattle.bfdd.specs.Serving.{Comes, IsLive, IsUnread, edges_of, job_by, status_of};
+ghost use Rattle.bfdd.specs.Serving.{Comes, edges_of, job_by, status_of};
 ghost use Rattle.bfdd.specs.Reports.{Reports};
 ghost use Rattle.bfdd.specs.Text.{most_bytes, wanted_of};
 
 use crate::job::answer::Answer;
-use crate::job::input::{InputFault, read_all};
-use crate::job::jobs::complain;
+use crate::job::input::{NoScript, script_in};
 use crate::job::status::Status;
 use crate::words::{Form, Hands};
 use bfd_edge::{Fault, Gate, Ports, Source, Ticker};
 use bfd_levels::Levels;
-use bfd_script::fields::ScriptFault;
-use bfd_script::{Script, read};
+use bfd_script::Script;
 use bfd_serve::Limits;
 use bfd_serve::run::{Finish, Outcome, Refused, serve_script};
 use bfd_wheel::{HashedWheel, Timers};
@@ -143,47 +141,6 @@ where
     }
 }
 
-/// Why there is no script to serve.
-#[derive(Drop)]
-pub(crate) enum Unread {
-    /// The text is no script, or is too large: what is to be reported of that.
-    Reported(Answer),
-
-    /// The source failed.
-    Failed,
-
-    /// Out of memory.
-    Memory,
-}
-
-/// Reads the source to its end, and its script.
-pub(crate) fn live_script<S: Source>(alloc: Global, source: &mut S) -> Result<Script, Unread>
-    ensures live { IfOk result (IsLive (S.left source.old) (S.left source.new)) }
-    ensures sound { IfOk result IsScript }
-    ensures unread { IfErr result (IsUnread (S.left source.old) (S.left source.new) (S.faults source.old)
-        (S.faults source.new)) }
-    ensures at_most { ConsumesAtMost (most_bytes + 1) (S.left source.old) (S.left source.new) }
-    ensures calm { IfOk result (λ _. S.faults source.new ≡ S.faults source.old) }
-{
-    let bytes = match read_all(alloc, source) {
-        Ok(bytes) => bytes,
-        Err(InputFault::TooLarge) => return Err(Unread::Reported(Answer::bare(
-            alloc,
-            Status::TooLarge,
-        ))),
-        Err(InputFault::Failed) => return Err(Unread::Failed),
-        Err(InputFault::Memory) => return Err(Unread::Memory),
-    };
-    match read(alloc, bytes.as_slice(), true) {
-        Ok(script) => Ok(script),
-        Err(ScriptFault::Memory) => Err(Unread::Memory),
-        Err(ScriptFault::Bad(bad)) => match complain(alloc, bad) {
-            Ok(answer) => Err(Unread::Reported(answer)),
-            Err(_) => Err(Unread::Memory),
-        },
-    }
-}
-
 /// What `serve` has to report, by these numbers and by the script that the source has. Every link that was opened is shut.
 pub(crate) fn serve_answer<
     R: Threads + Wait + Sync,
@@ -218,13 +175,13 @@ where
     ensures calm { IfOk result (λ answer. S.faults source.new ≡ S.faults source.old) }
     ensures calm_memory { IsErrOf result Fault.Memory → S.faults source.new ≡ S.faults source.old }
 {
-    match live_script(alloc, source) {
+    match script_in(alloc, true, source) {
         Ok(script) => match serve_by(rt, alloc, script, numbers, ports, ticker, gate) {
             Ok(answer) => Ok(answer),
             Err(_) => Err(Fault::Memory),
         },
-        Err(Unread::Reported(answer)) => Ok(answer),
-        Err(Unread::Failed) => Err(Fault::Failed),
-        Err(Unread::Memory) => Err(Fault::Memory),
+        Err(NoScript::Reported(answer)) => Ok(answer),
+        Err(NoScript::Failed) => Err(Fault::Failed),
+        Err(NoScript::Memory) => Err(Fault::Memory),
     }
 }

@@ -1,0 +1,43 @@
+//! The usual lines that come next, one after another.
+//!
+//! Behind a line that was read as any line is, many of the most usual kinds tend to come. They are read here in one way down their bytes, with
+//! no search for their ends and fields: as long as each is written in the usual way. Where one isn't, the general reader goes on.
+ghost use Rattle.std.specs.Prelude.{◌≡◌, ◌+◌, ◌++◌, ◌<◌, ◌≤◌, ◌^◌, IfOk, List, MatchResult, false, length, ℕ};
+ghost use Rattle.bfd_script.specs.Fields.{lines_of};
+ghost use Rattle.bfd_script.specs.Gives.{RefusesText};
+ghost use Rattle.bfd_script.specs.Reading.{script_from};
+ghost use Rattle.bfd_script.specs.declared.line.words.Place.TheVariants.{Events};
+
+use crate::fields::{ScriptFault, WINDOW};
+use crate::line::{Place, event_at};
+use crate::state::Reading;
+
+/// Reads packets and ticks one after another, the first of which has this number: what stands behind them, and the number of the line there.
+fn take_events<'a>(
+    reading: &mut Reading,
+    bytes: &'a [u8],
+    number: u64,
+) -> Result<(&'a [u8], u64), ScriptFault>
+    requires place { reading.old.place ≡ Events }
+    requires room { number + length bytes.now < 2 ^ 64 }
+    ensures script { MatchResult result
+        (λ ahead. (more : List ℕ) → script_from false reading.old number (lines_of (bytes.now ++ more))
+        ≡ script_from false reading.new ahead.1 (lines_of (ahead.0.now ++ more)))
+        (λ fault. (more : List ℕ) → RefusesText fault (script_from false reading.old number (lines_of (bytes.now ++ more)))) }
+    ensures count { IfOk result (λ ahead. ahead.1 + length ahead.0.now ≤ number + length bytes.now) }
+{
+    let mut rest = bytes;
+    let mut next = number;
+    while let Some((text, _)) = rest.split_first_chunk::<WINDOW>() {
+        let Some((line, used)) = event_at(text) else {
+            break;
+        };
+        match reading.push(line) {
+            Ok(()) => {}
+            Err(fault) => return Err(fault.at(next)),
+        }
+        rest = &rest[used..];
+        next += 1;
+    }
+    Ok((rest, next))
+}
