@@ -1,19 +1,30 @@
 -- What an arrival resolves to, as a call.
 use Rattle.bfd_engine.proofs.Common.{◌≡◌, ◌++◌, ◌∷◌, [], ℕ, List, Result, Ok, Err, refl, sym, subst, append-nil, Arrival, Datagram, Test}
 use Rattle.bfd_engine.proofs.Common.{Out, Answer, Event, EngineFault, Shards, Knows, IsDone, coming_act, reflect_act, arrival_judged}
-use Rattle.bfd_engine.proofs.Common.{comes_to, table_of}
+use Rattle.bfd_engine.proofs.Common.{comes_to, coming_to, first_table_failing, table_of, None, Some, Target}
 use Rattle.std.specs.Result.{result_err}
 use Rattle.bfd_packet.specs.Layout.{fields_of}
 use Rattle.bfd_sbfd.specs.Reflect.{reflect}
 use Rattle.bfd_session.specs.declared.event.Answer.TheVariants.{Handled, Dropped}
 use Rattle.bfd_session.specs.Arrivals.{Destination, Discarded, Reflected, Own as OwnEvent}
 use Rattle.bfd_session.specs.Discards.{answer_by}
-use Rattle.bfd_session.specs.Reaching.{sent_as}
+use Rattle.bfd_session.specs.Reaching.{Reaches, sent_as}
 use Rattle.bfd_engine.specs.Calls.{Act, Rests, own_act}
 
 -- in the engine's table the arrival goes to this
 abbrev pub Comes : Arrival → Destination → Shards → Type 0
 Comes arrival to engine = comes_to (table_of engine.configs engine.pool) arrival ≡ to
+
+-- .. and is for this target, by every test up to selection
+abbrev pub Selects : Arrival → Target → Shards → Type 0
+Selects arrival target engine = Comes arrival (coming_to (Some target) arrival) engine × Reaches engine.configs engine.pool arrival target
+    × (None ≡ first_table_failing (table_of engine.configs engine.pool) arrival)
+
+-- a target known by another name, in the engine's view
+pub selected : (arrival : Arrival) {from target : Target} {inside engine : Shards} → inside ≡ engine → from ≡ target
+    → Selects arrival from inside → Selects arrival target engine
+selected arrival {from} {engine} view is h =
+    subst (λ (t : Target). Selects arrival t engine) is (subst (Selects arrival from) view h)
 
 -- the named reflector of the engine's pool says this
 abbrev pub Says : Arrival → Result Out Test → Shards → Type 0
