@@ -27,6 +27,7 @@ fn take_events<'a>(
         ≡ script_from false reading.new ahead.1 (lines_of (ahead.0.now ++ more)))
         (λ fault. (more : List ℕ) → RefusesText fault (script_from false reading.old number (lines_of (bytes.now ++ more)))) }
     ensures count { IfOk result (λ ahead. ahead.1 + length ahead.0.now ≤ number + length bytes.now) }
+    ensures less { IfOk result (λ ahead. length ahead.0.now ≤ length bytes.now) }
 {
     let mut rest = bytes;
     let mut next = number;
@@ -58,6 +59,7 @@ pub(crate) fn take_usual<'a>(
         ≡ script_from live reading.new ahead.1 (lines_of (ahead.0.now ++ more)))
         (λ fault. (more : List ℕ) → RefusesText fault (script_from live reading.old number (lines_of (bytes.now ++ more)))) }
     ensures count { IfOk result (λ ahead. ahead.1 + length ahead.0.now ≤ number + length bytes.now) }
+    ensures less { IfOk result (λ ahead. length ahead.0.now ≤ length bytes.now) }
 {
     match reading.place() {
         Place::Table => take_rows(alloc, live, reading, bytes, number),

@@ -88,6 +88,7 @@ impl Reader {
         ensures told { IfOk result (λ rest. (more : List ℕ) → goes_on self.new (rest.now ++ more) ≡ goes_on self.old (text.now ++ more)) }
         ensures begun { self.new.begun ≡ [] }
         ensures few { IfOk result (λ rest. self.new.number + length rest.now ≤ self.old.number + length text.now) }
+        ensures less { IfOk result (λ rest. length rest.now ≤ length text.now) }
     {
         if self.found.is_some() {
             return Ok(text);
