@@ -28,6 +28,7 @@ pub(crate) fn take_rows<'a>(
         ≡ script_from live reading.new ahead.1 (lines_of (ahead.0.now ++ more)))
         (λ fault. (more : List ℕ) → RefusesText fault (script_from live reading.old number (lines_of (bytes.now ++ more)))) }
     ensures count { IfOk result (λ ahead. ahead.1 + length ahead.0.now ≤ number + length bytes.now) }
+    ensures less { IfOk result (λ ahead. length ahead.0.now ≤ length bytes.now) }
 {
     let mut rest = bytes;
     let mut next = number;
