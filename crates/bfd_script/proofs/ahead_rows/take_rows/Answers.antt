@@ -20,4 +20,5 @@ loop-text-preserved c =
           c.loop-text.invariant.0 begins c.loop-text.invariant.1 c.in-Ok.ensures behind,
       same_place_row c.in-Some-point_at.config c.loop-text.reading c.in-Ok.ensures ∙ c.loop-text.invariant.1,
       omega (arith, c.loop-text.invariant.2, near.0, ap length behind, length-drop c.in-Some-point_at.used c.loop-text.rest.now),
+      omega (arith, c.loop-text.invariant.3, ap length behind, length-drop c.in-Some-point_at.used c.loop-text.rest.now),
     )
