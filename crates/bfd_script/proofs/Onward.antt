@@ -1,12 +1,13 @@
 -- Where a text begins with a line that is known, its script is that of what stands behind the line.
-use Rattle.bfd_script.proofs.FieldsCommon.{◌≡◌, ℕ, ◌+◌, ◌++◌, ◌∷◌, ◌∙◌, ◌≤◌, Bool, true, false, List, drop, length, take, Result, Ok, Err, refl, ap}
-use Rattle.bfd_script.proofs.FieldsCommon.{append_assoc, arith, length-drop, length-take-le, lines_of, sym, take-append-drop, take-length, ◌-◌}
+use Rattle.bfd_script.proofs.FieldsCommon.{◌≡◌, ℕ, ◌+◌, ◌++◌, ◌∷◌, ◌∙◌, ◌-◌, ◌≤◌, Bool, true, false, List, drop, length, take, Result, Ok, Err, refl, ap}
+use Rattle.bfd_script.proofs.FieldsCommon.{append_assoc, arith, length-drop, length-take-le, lines_of, sym, take-append-drop, take-length}
 use Rattle.bfd_script.proofs.Common.{not, cond, nat_le, discr_of, has_place, is_full, is_named, is_taken, script_from}
 use Rattle.std.proofs.lemmas.List.{drop-append-le}
 use Rattle.bfd_session.specs.declared.event.SessionConfig.{SessionConfig}
 use Rattle.bfd_script.specs.declared.fields.fault.LineFault.{LineFault}
 use Rattle.bfd_script.specs.declared.fields.fault.ReadFault.{ReadFault}
 use Rattle.bfd_script.specs.declared.fields.fault.ReadFault.TheVariants.{Fault, Memory}
+use Rattle.bfd_script.specs.declared.fields.fault.ScriptFault.{ScriptFault}
 use Rattle.bfd_script.specs.declared.line.entries.Entry.{Entry}
 use Rattle.bfd_script.specs.declared.line.entries.Line.{Line}
 use Rattle.bfd_script.specs.declared.line.words.Place.{Place}
@@ -30,23 +31,29 @@ begins_in {window} {to} text front long short h =
       says = h.says;
     }
 
--- what is left of a text behind so many bytes
-pub behind : (to : ℕ) (text : List ℕ) → take (length text - to) (drop to text) ≡ drop to text
-behind to text = ap (λ n. take n (drop to text)) (sym (length-drop to text)) ∙ take-length (drop to text)
-
-pub left_over : (to : ℕ) (text : List ℕ) → length (take (length text - to) (drop to text)) ≡ length text - to
-left_over to text = ap length (behind to text) ∙ length-drop to text
-
 -- what the line says, where the state is before it
 says_here : {place : Place} {live : Bool} {text : List ℕ} {to : ℕ} {entry : Entry} (s : State) (h : Begins place live text to entry)
     → s.place ≡ place → entry_in_line s.version s.place live h.line ≡ Ok entry
 says_here s h here = rw here (h.says s.version)
 
 -- the line is accepted
-pub onward : {place : Place} {live : Bool} {text : List ℕ} {to : ℕ} {entry : Entry} (s : State) {next : State} (number : ℕ)
+onward : {place : Place} {live : Bool} {text : List ℕ} {to : ℕ} {entry : Entry} (s : State) {next : State} (number : ℕ)
     → Begins place live text to entry → s.place ≡ place → admitted entry s ≡ Ok next → (more : List ℕ)
     → script_from live s number (lines_of (text ++ more)) ≡ script_from live next (number + 1) (lines_of (drop to text ++ more))
 onward s number h here admits more = rw (h.lines more, says_here s h here, admits) refl
+
+-- the same of a text that was read up to here, and of what stands behind the line
+pub onward_from : {place : Place} {live : Bool} {to : ℕ} {entry : Entry} (first s : State) {next : State} (start number : ℕ)
+    (bytes text after : List ℕ)
+    → ((more : List ℕ) → script_from live first start (lines_of (bytes ++ more)) ≡ script_from live s number (lines_of (text ++ more)))
+    → Begins place live text to entry → s.place ≡ place → admitted entry s ≡ Ok next → after ≡ drop to text → (more : List ℕ)
+    → script_from live first start (lines_of (bytes ++ more)) ≡ script_from live next (number + 1) (lines_of (after ++ more))
+onward_from first s start number bytes text after before h here admits behind more =
+    rw behind (before more ∙ onward s number h here admits more)
+
+-- what stands behind the line, as a slice up to the end
+pub behind_line : (to : ℕ) (text : List ℕ) → take (length text - to) (drop to text) ≡ drop to text
+behind_line to text = ap (λ n. take n (drop to text)) (sym (length-drop to text)) ∙ take-length (drop to text)
 
 -- the line has a fault because of those before it
 onward_refused : {place : Place} {live : Bool} {text : List ℕ} {to : ℕ} {entry : Entry} (s : State) {fault : LineFault} (number : ℕ)
@@ -54,12 +61,15 @@ onward_refused : {place : Place} {live : Bool} {text : List ℕ} {to : ℕ} {ent
     → script_from live s number (lines_of (text ++ more)) ≡ Err (record { line = number; fault = fault })
 onward_refused s number h here admits more = rw (h.lines more, says_here s h here, admits) refl
 
--- the line is refused, unless memory ran out
-pub refused : {place : Place} {live : Bool} {text : List ℕ} {to : ℕ} {entry : Entry} (s : State) (fault : ReadFault) (number : ℕ)
-    → Begins place live text to entry → s.place ≡ place → Refuses fault (admitted entry s) → (more : List ℕ)
-    → RefusesText (fault_at number fault) (script_from live s number (lines_of (text ++ more)))
-refused s Memory number h here admits more = tt
-refused s (Fault fault) number h here admits more = onward_refused s number h here admits more
+-- the same of a text that was read up to here, unless memory ran out
+pub refused_from : {place : Place} {live : Bool} {to : ℕ} {entry : Entry} (first s : State) (start number : ℕ) (bytes text : List ℕ)
+    (refusal : ReadFault) {answer : ScriptFault} → answer ≡ fault_at number refusal
+    → ((more : List ℕ) → script_from live first start (lines_of (bytes ++ more)) ≡ script_from live s number (lines_of (text ++ more)))
+    → Begins place live text to entry → s.place ≡ place → Refuses refusal (admitted entry s) → (more : List ℕ)
+    → RefusesText answer (script_from live first start (lines_of (bytes ++ more)))
+refused_from first s start number bytes text Memory is before h here admits more = rw is tt
+refused_from first s start number bytes text (Fault fault) is before h here admits more =
+    rw is (before more ∙ onward_refused s number h here admits more)
 
 -- an event changes nothing about what may come next
 same_step : (known full : Bool) (refusal more : LineFault) (s later : State) {next : State} → later.place ≡ s.place
