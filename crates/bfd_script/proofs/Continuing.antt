@@ -41,6 +41,11 @@ fewer number more total text line after cut one fits =
     let long : length text ≡ length line + suc (length after) = ap length cut ∙ length-append line (10 ∷ after) in
     omega (arith, long, one, fits)
 
+pub shorter : (text line after rest : List ℕ) → text ≡ line ++ 10 ∷ after → length rest ≤ length after → length rest < length text
+shorter text line after rest cut less =
+    let long : length text ≡ length line + suc (length after) = ap length cut ∙ length-append line (10 ∷ after) in
+    omega (arith, long, less)
+
 -- the last line, with an LF or without
 pub closed : {X F : Type 0} (result : Result X F) (old new : Progress) → 0 < length old.begun → IsOpen old.begun → new.begun ≡ []
     → IfOk result (λ _. (more : List ℕ) → goes_on new more ≡ goes_on old (10 ∷ more))

@@ -8,9 +8,11 @@ ghost use Rattle.bfd_script.specs.Gives.{RefusesText};
 ghost use Rattle.bfd_script.specs.Reading.{script_from};
 ghost use Rattle.bfd_script.specs.declared.line.words.Place.TheVariants.{Events};
 
+use crate::ahead_rows::take_rows;
 use crate::fields::{ScriptFault, WINDOW};
 use crate::line::{Place, event_at};
 use crate::state::Reading;
+use std::alloc::Global;
 
 /// Reads packets and ticks one after another, the first of which has this number: what stands behind them, and the number of the line there.
 fn take_events<'a>(
@@ -25,6 +27,7 @@ fn take_events<'a>(
         ≡ script_from false reading.new ahead.1 (lines_of (ahead.0.now ++ more)))
         (λ fault. (more : List ℕ) → RefusesText fault (script_from false reading.old number (lines_of (bytes.now ++ more)))) }
     ensures count { IfOk result (λ ahead. ahead.1 + length ahead.0.now ≤ number + length bytes.now) }
+    ensures less { IfOk result (λ ahead. length ahead.0.now ≤ length bytes.now) }
 {
     let mut rest = bytes;
     let mut next = number;
@@ -40,4 +43,32 @@ fn take_events<'a>(
         next += 1;
     }
     Ok((rest, next))
+}
+
+/// Reads the usual lines that may come next, the first of which has this number: what stands behind them, and the number of the line there.
+pub(crate) fn take_usual<'a>(
+    alloc: Global,
+    live: bool,
+    reading: &mut Reading,
+    bytes: &'a [u8],
+    number: u64,
+) -> Result<(&'a [u8], u64), ScriptFault>
+    requires room { number + length bytes.now < 2 ^ 64 }
+    ensures script { MatchResult result
+        (λ ahead. (more : List ℕ) → script_from live reading.old number (lines_of (bytes.now ++ more))
+        ≡ script_from live reading.new ahead.1 (lines_of (ahead.0.now ++ more)))
+        (λ fault. (more : List ℕ) → RefusesText fault (script_from live reading.old number (lines_of (bytes.now ++ more)))) }
+    ensures count { IfOk result (λ ahead. ahead.1 + length ahead.0.now ≤ number + length bytes.now) }
+    ensures less { IfOk result (λ ahead. length ahead.0.now ≤ length bytes.now) }
+{
+    match reading.place() {
+        Place::Table => take_rows(alloc, live, reading, bytes, number),
+        Place::Events => {
+            if live {
+                return Ok((bytes, number));
+            }
+            take_events(reading, bytes, number)
+        }
+        _ => Ok((bytes, number)),
+    }
 }

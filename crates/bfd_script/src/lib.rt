@@ -15,6 +15,7 @@
 #![tactic(auto)]
 
 mod ahead;
+mod ahead_rows;
 pub mod fields;
 pub mod line;
 mod places;

@@ -6,6 +6,7 @@ ghost use Rattle.bfd_script.specs.Gives.{GivesScript};
 ghost use Rattle.bfd_script.specs.Reading.{script_of, start};
 ghost use Rattle.bfd_script.specs.Sound.{IsScript};
 
+use crate::ahead::take_usual;
 use crate::fields::{BadLine, ReadFault, ScriptFault, whole_line};
 use crate::reading::read_step;
 use crate::script::Script;
@@ -80,6 +81,31 @@ impl Reader {
         Ok(())
     }
 
+    /// Reads the usual lines that come next, unless a faulty one was found, and answers what is left of this text.
+    fn read_usual<'a>(&mut self, alloc: Global, text: &'a [u8]) -> Result<&'a [u8], AllocError>
+        requires begun { self.old.begun ≡ [] }
+        requires few { self.old.number + length text.now < 18446744073709551615 }
+        ensures told { IfOk result (λ rest. (more : List ℕ) → goes_on self.new (rest.now ++ more) ≡ goes_on self.old (text.now ++ more)) }
+        ensures begun { self.new.begun ≡ [] }
+        ensures few { IfOk result (λ rest. self.new.number + length rest.now ≤ self.old.number + length text.now) }
+        ensures less { IfOk result (λ rest. length rest.now ≤ length text.now) }
+    {
+        if self.found.is_some() {
+            return Ok(text);
+        }
+        match take_usual(alloc, self.live, &mut self.reading, text, self.number) {
+            Ok((rest, number)) => {
+                self.number = number;
+                Ok(rest)
+            }
+            Err(ScriptFault::Bad(bad)) => {
+                self.found = Some(bad);
+                Ok(text)
+            }
+            Err(ScriptFault::Memory) => Err(AllocError),
+        }
+    }
+
     /// Reads the whole lines of this text, and answers the line that it leaves open.
     fn read_lines<'a>(&mut self, alloc: Global, text: &'a [u8]) -> Result<&'a [u8], AllocError>
         requires begun { self.old.begun ≡ [] }
@@ -90,10 +116,10 @@ impl Reader {
         ensures few { IfOk result (λ rest. self.new.number + length rest.now ≤ self.old.number + length text.now) }
     {
         let mut fields = Vec::new(alloc);
-        let mut rest = text;
+        let mut rest = self.read_usual(alloc, text)?;
         while let Some((line, after)) = whole_line(rest) {
             self.read_line(alloc, line, &mut fields)?;
-            rest = after;
+            rest = self.read_usual(alloc, after)?;
         }
         Ok(rest)
     }

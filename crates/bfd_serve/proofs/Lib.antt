@@ -12,8 +12,6 @@ pub mod Splits
 pub mod Moves
 pub mod Summing
 mod SpellingCommon
-pub mod Visible
-pub mod Splitting
 pub mod Numerals
 pub mod Rereading
 pub mod RowsAgain

@@ -27,8 +27,9 @@ use Rattle.bfd_script.specs.Secrets.{chain_of, key_of, auth_type_of, one_key, se
 use Rattle.bfd_script.specs.Verbs.{command, fits, command_number, verb_of}
 use Rattle.bfd_serve.proofs.Numerals.{number_again, number_field, number_short}
 use Rattle.bfd_serve.proofs.Rereading.{address_again, address_is_field, address_short, bytes_again, hex_is_field, hex_short, payload_again}
-use Rattle.bfd_serve.proofs.Visible.{IsField, word}
-use Rattle.bfd_serve.proofs.Splitting.{entry_again, total}
+use Rattle.bfd_script.proofs.Visible.{word}
+use Rattle.bfd_script.specs.Windows.{IsField}
+use Rattle.bfd_script.proofs.Splitting.{entry_again, total}
 
 -- ---- versions
 

@@ -5,7 +5,7 @@ use Rattle.bfd_serve.proofs.SpellingCommon.{AllByRecursion, is_number, number_in
 use Rattle.std.proofs.lemmas.Fmt.{digits_decimal, digits_value-decimal, decimal_nonempty, first_decimal, decimal_digit, length-decimal-le}
 use Rattle.std.specs.Char.{is_ascii_digit}
 use Rattle.bfd_script.proofs.Decimal.{own}
-use Rattle.bfd_serve.proofs.Visible.{IsField}
+use Rattle.bfd_script.specs.Windows.{IsField}
 
 -- a decimal digit
 record IsDigit (byte : ℕ) : Type 0 where

@@ -17,8 +17,9 @@ use Rattle.bfd_packet.specs.declared.arrival.Addr.{Addr}
 use Rattle.bfd_packet.specs.declared.arrival.Addr.TheVariants.{V4, V6}
 use Rattle.bfd_script.specs.Values.{IsAddress, address_by, address_of, bytes_of, dotted_of, octet_of, part_of, payload_of, quad_of}
 use Rattle.bfd_serve.proofs.Numerals.{number_again, number_dotless, number_field, octet_short}
-use Rattle.bfd_serve.proofs.Visible.{IsVisible, IsField, is_visible, seen}
-use Rattle.bfd_serve.proofs.Splitting.{split_front, split_last}
+use Rattle.bfd_script.proofs.Visible.{is_visible, seen}
+use Rattle.bfd_script.specs.Windows.{IsField, IsVisible}
+use Rattle.bfd_script.proofs.Splitting.{split_front, split_last}
 
 -- ---- four numbers with dots
 

@@ -22,8 +22,9 @@ use Rattle.bfd_script.specs.Seamless.{initiator_from, reflecting_of, up_of}
 use Rattle.bfd_script.specs.Trees.{listener_of, sender_of}
 use Rattle.bfd_serve.proofs.Numerals.{number_again, number_field, number_short}
 use Rattle.bfd_serve.proofs.Rereading.{address_again, address_is_field, address_short}
-use Rattle.bfd_serve.proofs.Visible.{IsField, word}
-use Rattle.bfd_serve.proofs.Splitting.{entry_again, total}
+use Rattle.bfd_script.proofs.Visible.{word}
+use Rattle.bfd_script.specs.Windows.{IsField}
+use Rattle.bfd_script.proofs.Splitting.{entry_again, total}
 
 -- ---- words
 

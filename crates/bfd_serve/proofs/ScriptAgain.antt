@@ -31,7 +31,7 @@ use Rattle.bfd_script.specs.Sound.{AreApart, AreNamed, IsScript}
 use Rattle.bfd_serve.proofs.LinesAgain.{Speaks, auth_again, auth_fields_fit, event_again, event_fields_fit, key_again, key_fields_fit}
 use Rattle.bfd_serve.proofs.RowsAgain.{bare, reflector_again, reflector_fields_fit, row_again, row_fields_fit}
 use Rattle.bfd_serve.proofs.Following.{Follows, Ready, ready}
-use Rattle.bfd_serve.proofs.Splitting.{lines_again}
+use Rattle.bfd_script.proofs.Splitting.{lines_again}
 
 -- ---- one line
 

@@ -8,11 +8,11 @@ pub use Rattle.std.specs.Fmt.{decimal}
 pub use Rattle.std.specs.List.{AllByRecursion, list_all, list_any, slice_split}
 pub use Rattle.std.specs.Prelude.{codes, find, is_some, not, slice_index}
 pub use Rattle.std.specs.String.{string_bytes}
-pub use Rattle.bfd_script.specs.Fields.{is_number, is_printable, line_text, lines_of, number_in, split_fields}
+pub use Rattle.bfd_script.specs.Fields.{is_number, lines_of, number_in}
 pub use Rattle.bfd_script.specs.Spelling.{hex_field, line, spaced}
 pub use Rattle.bfd_script.specs.declared.fields.fault.LineFault.TheVariants.{NoSuchSession, OutOfRange, SameAddresses, SameDiscr, SameKey}
 pub use Rattle.bfd_script.specs.declared.fields.fault.LineFault.TheVariants.{TooMany}
-pub use Rattle.bfd_script.specs.Entries.{cmd_entry, entry_in_line, placed}
+pub use Rattle.bfd_script.specs.Entries.{cmd_entry, entry_in_line}
 unfoldable pub use Rattle.bfd_script.specs.Entries.{numbered_of, plain_of, received_of, shown_of}
 pub use Rattle.bfd_script.specs.Ranges.{AreKeys, AreNext, IsAsked, IsEvent, IsHeadRow, IsKey, IsNext, IsPointRow, IsReceived, IsReflector}
 pub use Rattle.bfd_script.specs.Ranges.{IsRow, IsInitiatorRow, IsTailRow}

@@ -1,23 +1,24 @@
-use Rattle.bfd_script.proofs.FieldsCommon.{arith, refl}
+use Rattle.bfd_script.proofs.FieldsCommon.{◌∙◌, ap, arith, length, length-drop}
+use Rattle.bfd_script.proofs.Onward.{begins_in, behind_line, onward_from, refused_from, same_place}
 use Rattle.bfd_script.proofs.ahead.take_events.Goals as goal
 
-pub loop-text-init : goal.loop-text-init
-loop-text-init c = (λ more. refl, c.requires.place, omega arith)
-
 pub returns-in-Err-clause-script : goal.returns-in-Err-clause-script
-returns-in-Err-clause-script c = ?
-
-pub overflow_add-next : goal.overflow_add-next
-overflow_add-next c = ?
-
-pub loop-text-smaller : goal.loop-text-smaller
-loop-text-smaller c = ?
+returns-in-Err-clause-script c =
+    let cut = c.in-Some.ensures.cases in
+    let begins = begins_in c.loop-text.rest.now cut.0 (omega (arith, cut.2)) c.in-Some-event_at.ensures.near.1
+    c.in-Some-event_at.ensures.begins in
+    refused_from c.args.reading.now c.loop-text.reading c.args.number c.loop-text.next c.args.bytes.now c.loop-text.rest.now c.in-Err.fault
+    c.at.ensures c.loop-text.invariant.0 begins c.loop-text.invariant.1 c.in-Err.ensures
 
 pub loop-text-preserved : goal.loop-text-preserved
-loop-text-preserved c = ?
-
-pub returns-clause-script : goal.returns-clause-script
-returns-clause-script c = c.loop-text.invariant.0
-
-pub returns-clause-count : goal.returns-clause-count
-returns-clause-count c = c.loop-text.invariant.2
+loop-text-preserved c =
+    let cut = c.in-Some.ensures.cases in
+    let near = c.in-Some-event_at.ensures.near in
+    let begins = begins_in c.loop-text.rest.now cut.0 (omega (arith, cut.2)) near.1 c.in-Some-event_at.ensures.begins in
+    let behind = behind_line c.in-Some-event_at.used c.loop-text.rest.now in (
+      onward_from c.args.reading.now c.loop-text.reading c.args.number c.loop-text.next c.args.bytes.now c.loop-text.rest.now _
+          c.loop-text.invariant.0 begins c.loop-text.invariant.1 c.in-Ok.ensures behind,
+      same_place c.in-Some-event_at.line c.loop-text.reading c.in-Ok.ensures ∙ c.loop-text.invariant.1,
+      omega (arith, c.loop-text.invariant.2, near.0, ap length behind, length-drop c.in-Some-event_at.used c.loop-text.rest.now),
+      omega (arith, c.loop-text.invariant.3, ap length behind, length-drop c.in-Some-event_at.used c.loop-text.rest.now),
+    )

@@ -8,6 +8,7 @@ abbrev pub invariant-loop-text : goal.invariant-loop-text
 invariant-loop-text l = ((more : List ℕ) → script_from false l.initial.reading l.number (lines_of (l.bytes ++ more))
     ≡ script_from false l.reading l.next (lines_of (l.rest ++ more)))
     × (l.reading.place ≡ Events) × (l.next + length l.rest ≤ l.number + length l.bytes)
+    × (length l.rest ≤ length l.bytes)
 
 abbrev pub decreases-loop-text : goal.decreases-loop-text
 decreases-loop-text l = length l.rest
