@@ -1,5 +1,5 @@
 -- A text that is read piece by piece.
-use Rattle.bfd_script.proofs.FieldsCommon.{◌≡◌, ℕ, ◌+◌, ◌<◌, ◌≤◌, List, [], ◌∷◌, ◌++◌, length, refl, ap, sym, ◌∙◌, lines_of, append-nil, append_assoc}
+use Rattle.bfd_script.proofs.FieldsCommon.{◌≡◌, ℕ, ◌+◌, ◌<◌, ◌≤◌, List, [], ◌∷◌, ◌++◌, length, ap, sym, ◌∙◌, lines_of, append-nil, append_assoc}
 use Rattle.bfd_script.proofs.FieldsCommon.{Result, Ok, Err, arith, suc}
 use Rattle.std.proofs.lemmas.List.{length-append}
 use Rattle.std.specs.Prelude.{IfOk}

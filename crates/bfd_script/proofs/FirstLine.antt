@@ -1,8 +1,7 @@
 -- The first line of a text ends at its first LF.
-use Rattle.bfd_script.proofs.FieldsCommon.{◌≡◌, ℕ, ◌+◌, ◌<◌, ◌==◌, Bool, true, List, [], ◌∷◌, ◌++◌, length, take, drop, refl, append-nil, zero}
-use Rattle.bfd_script.proofs.FieldsCommon.{ap, ◌∙◌, arith, suc, subst, ◌≤◌, slice_index, false_from_ne_true, lines_of, eqb-true}
+use Rattle.bfd_script.proofs.FieldsCommon.{◌≡◌, ℕ, ◌+◌, ◌<◌, ◌==◌, Bool, true, List, [], ◌∷◌, ◌++◌, length, take, drop, refl, zero}
+use Rattle.bfd_script.proofs.FieldsCommon.{ap, arith, suc, subst, ◌≤◌, slice_index, false_from_ne_true, lines_of, eqb-true}
 use Rattle.bfd_script.proofs.FieldsCommon.{NoneBefore, Nowhere, Passes, take-length}
-use Rattle.std.specs.List.{AllByRecursion}
 use Rattle.bfd_script.specs.Fields.{IsOpen}
 
 -- a byte that ends a line

@@ -1,5 +1,5 @@
 -- Where a text begins with a line that is known, its script is that of what stands behind the line.
-use Rattle.bfd_script.proofs.FieldsCommon.{◌≡◌, ℕ, ◌+◌, ◌++◌, ◌∷◌, ◌∙◌, ◌-◌, ◌≤◌, Bool, true, false, List, drop, length, take, Result, Ok, Err, refl, ap}
+use Rattle.bfd_script.proofs.FieldsCommon.{◌≡◌, ℕ, ◌+◌, ◌++◌, ◌∷◌, ◌∙◌, ◌-◌, ◌≤◌, Bool, true, false, List, drop, length, take, Ok, Err, refl, ap}
 use Rattle.bfd_script.proofs.FieldsCommon.{append_assoc, arith, length-drop, length-take-le, lines_of, sym, take-append-drop, take-length}
 use Rattle.bfd_script.proofs.Common.{not, cond, nat_le, discr_of, has_place, is_full, is_named, is_taken, script_from}
 use Rattle.std.proofs.lemmas.List.{drop-append-le}

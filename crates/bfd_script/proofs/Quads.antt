@@ -1,11 +1,11 @@
 -- Addresses of four numbers at a place of a text.
-use Rattle.bfd_script.proofs.FieldsCommon.{◌≡◌, ℕ, ◌+◌, ◌*◌, ◌<◌, ◌≤◌, ◌==◌, cond, not, Bool, true, false, List, [], ◌∷◌, ◌++◌, length}
+use Rattle.bfd_script.proofs.FieldsCommon.{◌≡◌, ℕ, ◌+◌, ◌*◌, ◌≤◌, ◌==◌, cond, not, Bool, true, false, List, [], ◌∷◌, ◌++◌, length}
 use Rattle.bfd_script.proofs.FieldsCommon.{drop, Result, Ok, Err, refl, ap, sym, ◌∙◌, arith, nat_tests, list_all, and_parts, append_assoc}
-use Rattle.bfd_script.proofs.FieldsCommon.{is_ascii_digit, is_number, number_in, octet_of, dotted_of, quad_of, address_of, slice_split, V4}
+use Rattle.bfd_script.proofs.FieldsCommon.{is_ascii_digit, is_number, number_in, octet_of, dotted_of, address_of, slice_split, V4}
 use Rattle.bfd_script.proofs.Common.{length-append, AllByRecursion}
 use Rattle.bfd_script.specs.declared.fields.fault.LineFault.{LineFault}
 use Rattle.bfd_script.specs.declared.fields.fault.LineFault.TheVariants.{BadNumber}
-use Rattle.bfd_script.specs.Windows.{IsField, IsVisible, Reads}
+use Rattle.bfd_script.specs.Windows.{IsVisible, Reads}
 use Rattle.bfd_script.proofs.Elements.{each_more}
 use Rattle.bfd_script.proofs.Octets.{no_digits, quad_is}
 use Rattle.bfd_script.proofs.Splitting.{split_front, split_last}

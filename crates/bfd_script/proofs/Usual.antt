@@ -1,8 +1,8 @@
 -- Whole lines of a text's first bytes, from the fields that stand there one behind another.
-use Rattle.bfd_script.proofs.FieldsCommon.{◌≡◌, ℕ, ◌+◌, ◌-◌, ◌<◌, ◌≤◌, Bool, false, List, [], ◌∷◌, ◌++◌, length, drop, Result, Ok}
+use Rattle.bfd_script.proofs.FieldsCommon.{◌≡◌, ℕ, ◌+◌, ◌-◌, ◌≤◌, Bool, false, List, [], ◌∷◌, ◌++◌, length, drop, Result, Ok}
 use Rattle.bfd_script.proofs.FieldsCommon.{refl, ap, sym, ◌∙◌, arith, append_assoc, codes, slice_index, lines_of, number_in, address_of}
 use Rattle.bfd_script.proofs.FieldsCommon.{payload_of}
-use Rattle.bfd_script.proofs.Common.{length-append, AllByRecursion}
+use Rattle.bfd_script.proofs.Common.{AllByRecursion}
 use Rattle.bfd_num.specs.Numbers.{moment_bound, greatest_tick}
 use Rattle.bfd_packet.specs.declared.arrival.Addr.{Addr}
 use Rattle.bfd_packet.specs.declared.arrival.Port.{Port}

@@ -1,8 +1,8 @@
 -- What stands at a place of a text, byte by byte.
-use Rattle.bfd_script.proofs.FieldsCommon.{◌≡◌, ℕ, ◌+◌, ◌*◌, ◌^◌, ◌<◌, ◌≤◌, ◌==◌, ◌&&◌, ◌||◌, not, Bool, true, false, List, [], ◌∷◌, ◌++◌}
+use Rattle.bfd_script.proofs.FieldsCommon.{◌≡◌, ℕ, ◌+◌, ◌*◌, ◌^◌, ◌<◌, ◌≤◌, ◌==◌, ◌&&◌, not, Bool, true, false, List, [], ◌∷◌, ◌++◌}
 use Rattle.bfd_script.proofs.FieldsCommon.{length, drop, Ok, refl, ap, sym, ◌∙◌, arith, nat_tests, nat_lt, slice_index, list_all, and_parts}
-use Rattle.bfd_script.proofs.FieldsCommon.{append_assoc, digit_value, is_ascii_digit, digits_value, is_number, number_in, is_printable}
-use Rattle.bfd_script.proofs.Common.{length-append, AllByRecursion}
+use Rattle.bfd_script.proofs.FieldsCommon.{append_assoc, digit_value, is_ascii_digit, digits_value, is_number, number_in}
+use Rattle.bfd_script.proofs.Common.{length-append}
 use Rattle.std.proofs.lemmas.Int.Digits.{digits_value_push}
 use Rattle.std.proofs.lemmas.List.{drop_more}
 use Rattle.std.proofs.lemmas.Str.Parse.{digits_value_short}
