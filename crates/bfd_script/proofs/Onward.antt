@@ -14,11 +14,11 @@ use Rattle.bfd_script.specs.declared.line.words.Place.{Place}
 use Rattle.bfd_script.specs.Entries.{entry_in_line}
 use Rattle.bfd_script.specs.Gives.{Refuses, RefusesText, fault_at}
 use Rattle.bfd_script.specs.Reading.{State, admitted, with_config, with_event}
-use Rattle.bfd_script.specs.Windows.{Begins}
+use Rattle.bfd_script.specs.Windows.{HasLine}
 
 -- the line that the first bytes of a text begin with is the first of the whole text
 pub begins_in : {place : Place} {live : Bool} {window : List ℕ} {to : ℕ} {entry : Entry} (text : List ℕ) → window ≡ take 256 text
-    → 256 ≤ length text → to ≤ 256 → Begins place live window to entry → Begins place live text to entry
+    → 256 ≤ length text → to ≤ 256 → HasLine place live window to entry → HasLine place live text to entry
 begins_in {window} {to} text front long short h =
     let whole : text ≡ window ++ drop 256 text = sym (ap (λ first. first ++ drop 256 text) front ∙ take-append-drop 256 text) in
     let within : to ≤ length window = omega (arith, short, ap length front ∙ length-take-le 256 text long) in
@@ -32,13 +32,13 @@ begins_in {window} {to} text front long short h =
     }
 
 -- what the line says, where the state is before it
-says_here : {place : Place} {live : Bool} {text : List ℕ} {to : ℕ} {entry : Entry} (s : State) (h : Begins place live text to entry)
+says_here : {place : Place} {live : Bool} {text : List ℕ} {to : ℕ} {entry : Entry} (s : State) (h : HasLine place live text to entry)
     → s.place ≡ place → entry_in_line s.version s.place live h.line ≡ Ok entry
 says_here s h here = rw here (h.says s.version)
 
 -- the line is accepted
 onward : {place : Place} {live : Bool} {text : List ℕ} {to : ℕ} {entry : Entry} (s : State) {next : State} (number : ℕ)
-    → Begins place live text to entry → s.place ≡ place → admitted entry s ≡ Ok next → (more : List ℕ)
+    → HasLine place live text to entry → s.place ≡ place → admitted entry s ≡ Ok next → (more : List ℕ)
     → script_from live s number (lines_of (text ++ more)) ≡ script_from live next (number + 1) (lines_of (drop to text ++ more))
 onward s number h here admits more = rw (h.lines more, says_here s h here, admits) refl
 
@@ -46,7 +46,7 @@ onward s number h here admits more = rw (h.lines more, says_here s h here, admit
 pub onward_from : {place : Place} {live : Bool} {to : ℕ} {entry : Entry} (first s : State) {next : State} (start number : ℕ)
     (bytes text after : List ℕ)
     → ((more : List ℕ) → script_from live first start (lines_of (bytes ++ more)) ≡ script_from live s number (lines_of (text ++ more)))
-    → Begins place live text to entry → s.place ≡ place → admitted entry s ≡ Ok next → after ≡ drop to text → (more : List ℕ)
+    → HasLine place live text to entry → s.place ≡ place → admitted entry s ≡ Ok next → after ≡ drop to text → (more : List ℕ)
     → script_from live first start (lines_of (bytes ++ more)) ≡ script_from live next (number + 1) (lines_of (after ++ more))
 onward_from first s start number bytes text after before h here admits behind more =
     rw behind (before more ∙ onward s number h here admits more)
@@ -57,7 +57,7 @@ behind_line to text = ap (λ n. take n (drop to text)) (sym (length-drop to text
 
 -- the line has a fault because of those before it
 onward_refused : {place : Place} {live : Bool} {text : List ℕ} {to : ℕ} {entry : Entry} (s : State) {fault : LineFault} (number : ℕ)
-    → Begins place live text to entry → s.place ≡ place → admitted entry s ≡ Err fault → (more : List ℕ)
+    → HasLine place live text to entry → s.place ≡ place → admitted entry s ≡ Err fault → (more : List ℕ)
     → script_from live s number (lines_of (text ++ more)) ≡ Err (record { line = number; fault = fault })
 onward_refused s number h here admits more = rw (h.lines more, says_here s h here, admits) refl
 
@@ -65,7 +65,7 @@ onward_refused s number h here admits more = rw (h.lines more, says_here s h her
 pub refused_from : {place : Place} {live : Bool} {to : ℕ} {entry : Entry} (first s : State) (start number : ℕ) (bytes text : List ℕ)
     (refusal : ReadFault) {answer : ScriptFault} → answer ≡ fault_at number refusal
     → ((more : List ℕ) → script_from live first start (lines_of (bytes ++ more)) ≡ script_from live s number (lines_of (text ++ more)))
-    → Begins place live text to entry → s.place ≡ place → Refuses refusal (admitted entry s) → (more : List ℕ)
+    → HasLine place live text to entry → s.place ≡ place → Refuses refusal (admitted entry s) → (more : List ℕ)
     → RefusesText answer (script_from live first start (lines_of (bytes ++ more)))
 refused_from first s start number bytes text Memory is before h here admits more = rw is tt
 refused_from first s start number bytes text (Fault fault) is before h here admits more =

@@ -16,7 +16,7 @@ use Rattle.bfd_script.specs.declared.line.words.Version.{Version}
 use Rattle.bfd_script.specs.Arrivals.{arrival_of, port_in}
 use Rattle.bfd_script.specs.Entries.{placed, received_of}
 use Rattle.bfd_script.specs.Spelling.{line, spaced}
-use Rattle.bfd_script.specs.Windows.{Begins, IsField, Reads}
+use Rattle.bfd_script.specs.Windows.{HasLine, IsField, Reads}
 use Rattle.bfd_script.specs.Words.{word_of}
 use Rattle.bfd_script.proofs.Splitting.{entry_again, lines_again, total}
 use Rattle.bfd_script.proofs.Visible.{word}
@@ -56,7 +56,7 @@ stands_more h more = stands_word h.field h.visible h.here h.long more
 -- a line of fields is one that says what its fields say
 pub begins : {place : Place} {live : Bool} {text : List ℕ} {to : ℕ} {entry : Entry} {field : List ℕ} {fields : List (List ℕ)}
     → Stands text 0 to (field ∷ fields) → to ≤ 256
-    → ((version : Version) → placed version place live (word_of version field) fields ≡ Ok entry) → Begins place live text to entry
+    → ((version : Version) → placed version place live (word_of version field) fields ≡ Ok entry) → HasLine place live text to entry
 begins {place} {live} {text} {to} {field} {fields} h short says = record {
   line = spaced (field ∷ fields) [];
   lines = λ more. ap (λ all. lines_of (all ++ more)) h.here ∙ ap lines_of (append_assoc (line (field ∷ fields)) (drop to text) more)
@@ -80,7 +80,7 @@ pub packet_begins : {text : List ℕ} {c e f g h j to m i t : ℕ} {p : Port} {s
     → Reads (number_in 0 (moment_bound - 1)) 32 text 3 c m → Reads port_in 32 text c e p → Reads (number_in 0 65535) 32 text e f i
     → Reads address_of 32 text f g s → Reads address_of 32 text g h d → Reads (number_in 0 255) 32 text h j t
     → Reads payload_of 10 text j to bytes → to ≤ 256
-    → Begins Events false text to
+    → HasLine Events false text to
     (Event (Rx m (record { port = p; iface = i; src = s; sport = 49152; dst = d; ttl = t; payload = bytes })))
 packet_begins {text} long r x space moment port iface src dst ttl payload short =
     let here : drop 0 text ≡ codes "rx" ++ (32 ∷ drop 3 text) =
@@ -100,7 +100,7 @@ tick_says field e version = rw e refl
 -- a tick's line
 pub tick_begins : {text : List ℕ} {to n : ℕ} → 5 ≤ length text → slice_index text 0 ≡ 116 → slice_index text 1 ≡ 105
     → slice_index text 2 ≡ 99 → slice_index text 3 ≡ 107 → slice_index text 4 ≡ 32
-    → Reads (number_in 0 greatest_tick) 10 text 5 to n → to ≤ 256 → Begins Events false text to (Event (Tick n))
+    → Reads (number_in 0 greatest_tick) 10 text 5 to n → to ≤ 256 → HasLine Events false text to (Event (Tick n))
 tick_begins {text} long t i c k space tick short =
     let here : drop 0 text ≡ codes "tick" ++ (32 ∷ drop 5 text) =
     byte_at text 0 1 refl (omega (arith, long)) t ∙ ap (λ rest. 116 ∷ rest) (byte_at text 1 2 refl (omega (arith, long)) i

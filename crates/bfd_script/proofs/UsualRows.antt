@@ -15,7 +15,7 @@ use Rattle.bfd_script.specs.declared.line.words.Version.{Version}
 use Rattle.bfd_script.specs.Arrivals.{port_in}
 use Rattle.bfd_script.specs.Entries.{placed}
 use Rattle.bfd_script.specs.Points.{active_of, config_by, echo_of, ends_of, role_of, timing_of}
-use Rattle.bfd_script.specs.Windows.{Begins, Reads}
+use Rattle.bfd_script.specs.Windows.{HasLine, Reads}
 use Rattle.bfd_script.specs.Words.{word_of}
 use Rattle.bfd_script.proofs.Usual.{begins, stands_last, stands_more, stands_word}
 use Rattle.bfd_script.proofs.Visible.{word}
@@ -82,7 +82,7 @@ pub point_begins : {text : List ℕ} {b c d e f g h i j k to : ℕ} (ends : Ends
     → Reads active_of 32 text f g timing.active → Reads (number_in 10000 60000000) 32 text g h timing.tx
     → Reads (number_in 10000 60000000) 32 text h i timing.rx → Reads (number_in 1 255) 32 text i j timing.mult
     → Reads (echo_of ends.role) 32 text j k timing.echo → Reads (number_in 0 4294967295) 10 text k to timing.seed → to ≤ 256
-    → (live : Bool) → Begins Table live text to (Row (config_by ends timing))
+    → (live : Bool) → HasLine Table live text to (Row (config_by ends timing))
 point_begins {text} ends timing long p two q space discr role iface local remote mode tx rx mult every seed short live =
     let here : drop 0 text ≡ codes "p2p" ++ (32 ∷ drop 4 text) =
     byte_at text 0 1 refl (omega (arith, long)) p ∙ ap (λ rest. 112 ∷ rest) (byte_at text 1 2 refl (omega (arith, long)) two

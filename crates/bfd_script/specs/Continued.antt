@@ -27,5 +27,5 @@ abbrev pub told_from : Progress → List (List ℕ) → Result Lists BadLine
 told_from p lines = unless_found p.found (script_from p.live p.state p.number lines)
 
 -- what the text says, if these bytes are the rest of it
-abbrev pub goes_on : Progress → List ℕ → Result Lists BadLine
-goes_on p rest = told_from p (lines_of (p.begun ++ rest))
+abbrev pub told_with : Progress → List ℕ → Result Lists BadLine
+told_with p rest = told_from p (lines_of (p.begun ++ rest))

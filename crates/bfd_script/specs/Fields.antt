@@ -18,8 +18,8 @@ lines_of [] = []
 lines_of (byte ∷ bytes) = if byte == 10 then [] ∷ lines_of bytes else onto_line byte (lines_of bytes)
 
 -- no LF stands in it
-abbrev pub IsOpen : List ℕ → Type 0
-IsOpen bytes = AllByRecursion (λ byte. (byte == 10) ≡ false) bytes
+abbrev pub IsUnended : List ℕ → Type 0
+IsUnended bytes = AllByRecursion (λ byte. (byte == 10) ≡ false) bytes
 
 -- a byte that may stand in a line
 abbrev pub is_printable : ℕ → Bool

@@ -44,7 +44,7 @@ pub record Reads {X : Type 0} (read : List ℕ → Result X LineFault) (separato
   pub says : read field ≡ Ok value
 
 -- a text begins with a whole line that says this where the next line has to stand at such a place; behind it the text goes on from here
-pub record Begins (place : Place) (live : Bool) (text : List ℕ) (to : ℕ) (entry : Entry) : Type 0 where
+pub record HasLine (place : Place) (live : Bool) (text : List ℕ) (to : ℕ) (entry : Entry) : Type 0 where
   pub line : List ℕ
   pub lines : (more : List ℕ) → lines_of (text ++ more) ≡ line ∷ lines_of (drop to text ++ more)
   pub says : (version : Version) → entry_in_line version place live line ≡ Ok entry

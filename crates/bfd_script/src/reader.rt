@@ -1,7 +1,7 @@
 //! A text that is read piece by piece.
 ghost use Rattle.std.specs.Prelude.{◌≡◌, ◌+◌, ◌<◌, ◌≤◌, ◌++◌, ◌∷◌, ℕ, [], IfOk, List, None, length};
-ghost use Rattle.bfd_script.specs.Continued.{goes_on, told_from};
-ghost use Rattle.bfd_script.specs.Fields.{IsOpen};
+ghost use Rattle.bfd_script.specs.Continued.{told_with, told_from};
+ghost use Rattle.bfd_script.specs.Fields.{IsUnended};
 ghost use Rattle.bfd_script.specs.Gives.{GivesScript};
 ghost use Rattle.bfd_script.specs.Reading.{script_of, start};
 ghost use Rattle.bfd_script.specs.Sound.{IsScript};
@@ -16,7 +16,7 @@ use std::marker::Model;
 use std::mem;
 
 /// A packet file that comes in pieces of any length. Its text isn't kept, but for a line that has begun and hasn't ended. Contracts see it
-/// as the record `Progress`, and `goes_on` says what the text spells, whatever comes next.
+/// as the record `Progress`, and `told_with` says what the text spells, whatever comes next.
 ///
 /// In a `live` script the lines `rx` and `tick` may not stand, since packets and ticks come from outside.
 #[derive(Drop)]
@@ -30,13 +30,13 @@ pub struct Reader {
 
 impl Model for Reader {
     ghost use Rattle.bfd_script.specs.Continued.{Progress};
-    ghost use Rattle.bfd_script.specs.Fields.{IsOpen};
+    ghost use Rattle.bfd_script.specs.Fields.{IsUnended};
 
     ghost Value = { Progress };
 
     ghost view = { λ r. record { live = r.live; state = r.reading; number = r.number; begun = r.begun.items; found = r.found } };
 
-    ghost invariant = { λ r. IsOpen r.begun.items };
+    ghost invariant = { λ r. IsUnended r.begun.items };
 }
 
 impl Reader {
@@ -85,7 +85,7 @@ impl Reader {
     fn read_usual<'a>(&mut self, alloc: Global, text: &'a [u8]) -> Result<&'a [u8], AllocError>
         requires begun { self.old.begun ≡ [] }
         requires few { self.old.number + length text.now < 18446744073709551615 }
-        ensures told { IfOk result (λ rest. (more : List ℕ) → goes_on self.new (rest.now ++ more) ≡ goes_on self.old (text.now ++ more)) }
+        ensures told { IfOk result (λ rest. (more : List ℕ) → told_with self.new (rest.now ++ more) ≡ told_with self.old (text.now ++ more)) }
         ensures begun { self.new.begun ≡ [] }
         ensures few { IfOk result (λ rest. self.new.number + length rest.now ≤ self.old.number + length text.now) }
         ensures less { IfOk result (λ rest. length rest.now ≤ length text.now) }
@@ -110,9 +110,9 @@ impl Reader {
     fn read_lines<'a>(&mut self, alloc: Global, text: &'a [u8]) -> Result<&'a [u8], AllocError>
         requires begun { self.old.begun ≡ [] }
         requires few { self.old.number + length text.now < 18446744073709551615 }
-        ensures told { IfOk result (λ rest. (more : List ℕ) → goes_on self.new (rest.now ++ more) ≡ goes_on self.old (text.now ++ more)) }
+        ensures told { IfOk result (λ rest. (more : List ℕ) → told_with self.new (rest.now ++ more) ≡ told_with self.old (text.now ++ more)) }
         ensures begun { self.new.begun ≡ [] }
-        ensures inside { IfOk result (λ rest. IsOpen rest.now) }
+        ensures inside { IfOk result (λ rest. IsUnended rest.now) }
         ensures few { IfOk result (λ rest. self.new.number + length rest.now ≤ self.old.number + length text.now) }
     {
         let mut fields = Vec::new(alloc);
@@ -126,8 +126,8 @@ impl Reader {
 
     /// The line that has begun goes on with these bytes.
     fn begin(&mut self, bytes: &[u8]) -> Result<(), AllocError>
-        requires { IsOpen bytes.now }
-        ensures told { IfOk result (λ _. (more : List ℕ) → goes_on self.new more ≡ goes_on self.old (bytes.now ++ more)) }
+        requires { IsUnended bytes.now }
+        ensures told { IfOk result (λ _. (more : List ℕ) → told_with self.new more ≡ told_with self.old (bytes.now ++ more)) }
         ensures number { self.new.number ≡ self.old.number }
         ensures begun { length self.new.begun ≤ length self.old.begun + length bytes.now }
     {
@@ -140,9 +140,9 @@ impl Reader {
     /// The line that has begun ends with these bytes.
     #[tactic(auto, using(crate::proofs::Continuing::line_ended))]
     fn end(&mut self, alloc: Global, bytes: &[u8]) -> Result<(), AllocError>
-        requires inside { IsOpen bytes.now }
+        requires inside { IsUnended bytes.now }
         requires number { self.old.number < 18446744073709551615 }
-        ensures told { IfOk result (λ _. (more : List ℕ) → goes_on self.new more ≡ goes_on self.old (bytes.now ++ 10 ∷ more)) }
+        ensures told { IfOk result (λ _. (more : List ℕ) → told_with self.new more ≡ told_with self.old (bytes.now ++ 10 ∷ more)) }
         ensures number { self.new.number ≤ self.old.number + 1 }
         ensures begun { self.new.begun ≡ [] }
     {
@@ -154,7 +154,7 @@ impl Reader {
     /// Reads the next piece: its whole lines, with the line that has begun. It fails only when out of memory.
     pub fn take(&mut self, alloc: Global, piece: &[u8]) -> Result<(), AllocError>
         requires few { self.old.number + length self.old.begun + length piece.now < 18446744073709551615 }
-        ensures told { IfOk result (λ _. (more : List ℕ) → goes_on self.new more ≡ goes_on self.old (piece.now ++ more)) }
+        ensures told { IfOk result (λ _. (more : List ℕ) → told_with self.new more ≡ told_with self.old (piece.now ++ more)) }
         ensures few { IfOk result (λ _. self.new.number + length self.new.begun
             ≤ self.old.number + length self.old.begun + length piece.now) }
     {
@@ -173,7 +173,7 @@ impl Reader {
     /// The text has ended: the line that has begun, if it isn't empty, is its last.
     fn close(&mut self, alloc: Global) -> Result<(), AllocError>
         requires number { self.old.number < 18446744073709551615 }
-        ensures { IfOk result (λ _. told_from self.new [] ≡ goes_on self.old []) }
+        ensures { IfOk result (λ _. told_from self.new [] ≡ told_with self.old []) }
     {
         if self.begun.is_empty() {
             Ok(())
@@ -185,7 +185,7 @@ impl Reader {
     /// The text has ended: the script that it spells, or its first faulty line with that line's first fault.
     pub fn finish(self, alloc: Global) -> Result<Script, ScriptFault>
         requires number { self.number < 18446744073709551615 }
-        ensures script { GivesScript result (goes_on self []) }
+        ensures script { GivesScript result (told_with self []) }
         ensures sound { IfOk result IsScript }
     {
         let mut reader = self;

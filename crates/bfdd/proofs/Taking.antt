@@ -2,10 +2,10 @@
 use Rattle.std.proofs.Common.{◌≡◌, ℕ, ◌+◌, ◌≤◌, Bool, List, [], ◌++◌, length, Option, ap, sym, ◌∙◌, arith, append_assoc, length-append}
 use Rattle.std.specs.Io.KnownBytes.{Consumes}
 use Rattle.std.proofs.KnownBytes.{Consumes-nil, Consumes-trans}
-use Rattle.bfd_script.specs.Continued.{Progress, goes_on}
+use Rattle.bfd_script.specs.Continued.{Progress, told_with}
 use Rattle.bfd_script.specs.Reading.{script_of}
 use Rattle.bfdd.specs.Outside.{ConsumesAtMost}
-use Rattle.bfdd.specs.Sources.{HasTaken}
+use Rattle.bfdd.specs.Sources.{IsReadOn}
 
 -- nothing was read
 pub read_nothing : (most : ℕ) (known : Option (List ℕ)) → ConsumesAtMost most known known
@@ -18,9 +18,9 @@ read_more most first next last a b one two fits = (a ++ b, Consumes-trans first 
 
 -- .. and a reader took it
 pub taken_more : (live : Bool) (first next last : Option (List ℕ)) (count more : ℕ) (old new : Progress) (piece : List ℕ)
-    → HasTaken live first next count old → Consumes next last piece → length piece ≡ more
+    → IsReadOn live first next count old → Consumes next last piece → length piece ≡ more
     → new.number + length new.begun ≤ old.number + length old.begun + length piece
-    → ((rest : List ℕ) → goes_on new rest ≡ goes_on old (piece ++ rest)) → HasTaken live first last (count + more) new
+    → ((rest : List ℕ) → told_with new rest ≡ told_with old (piece ++ rest)) → IsReadOn live first last (count + more) new
 taken_more live first next last count more old new piece taken read long few told = record {
   bytes = taken.bytes ++ piece;
   read = Consumes-trans first next last taken.bytes piece taken.read read;

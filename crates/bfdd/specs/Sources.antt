@@ -3,7 +3,7 @@ use Rattle.std.specs.Prelude.{◌≡◌, ◌+◌, ◌<◌, ◌≤◌, ◌++◌, 
 use Rattle.std.specs.Io.KnownBytes.{Consumes, IsAtEnd}
 use Rattle.bfd_edge.specs.Faults.{Rose}
 use Rattle.bfd_script.specs.declared.fields.fault.BadLine.{BadLine as FaultyLine}
-use Rattle.bfd_script.specs.Continued.{Progress, goes_on}
+use Rattle.bfd_script.specs.Continued.{Progress, told_with}
 use Rattle.bfd_script.specs.Reading.{Lists, script_of}
 use Rattle.bfdd.specs.declared.job.input.NoScript.{NoScript}
 use Rattle.bfdd.specs.declared.job.input.NoScript.TheVariants.{Reported, Failed, Memory}
@@ -12,12 +12,12 @@ use Rattle.bfdd.specs.Answers.{IsAnswer}
 use Rattle.bfdd.specs.Text.{Wanted, bare, complaint_line, ends, most_bytes}
 
 -- so many bytes were read, and a reader has taken them
-pub record HasTaken (live : Bool) (left right : Option (List ℕ)) (count : ℕ) (reader : Progress) : Type 0 where
+pub record IsReadOn (live : Bool) (left right : Option (List ℕ)) (count : ℕ) (reader : Progress) : Type 0 where
   pub bytes : List ℕ
   pub read : Consumes left right bytes
   pub long : length bytes ≡ count
   pub number : reader.number + length reader.begun ≤ count + 1
-  pub told : (more : List ℕ) → goes_on reader more ≡ script_of live (bytes ++ more)
+  pub told : (more : List ℕ) → told_with reader more ≡ script_of live (bytes ++ more)
 
 -- a source that was read to its end, and the script that its bytes spell
 pub record IsRead (live : Bool) (left right : Option (List ℕ)) (script : Lists) : Type 0 where

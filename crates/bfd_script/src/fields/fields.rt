@@ -5,7 +5,7 @@ ghost use Rattle.std.specs.Simd.Lanes.{mask_l};
 ghost use Rattle.std.specs.List.{list_all, position_or_len, slice_split};
 ghost use Rattle.std.specs.Char.{is_ascii_digit};
 ghost use Rattle.std.specs.Str.Parse.{digits_value};
-ghost use Rattle.bfd_script.specs.Fields.{IsOpen, split_fields, is_printable, number_in, line_text};
+ghost use Rattle.bfd_script.specs.Fields.{IsUnended, split_fields, is_printable, number_in, line_text};
 ghost use Rattle.bfd_script.specs.Gives.{SeesField};
 ghost use Rattle.bfd_script.specs.declared.fields.fault.LineFault.TheVariants.{OutOfRange};
 
@@ -30,8 +30,8 @@ const MOST_DIGITS: usize = 18;
 /// The first line of a text without its LF, and the text after it; none where no LF ends it.
 #[tactic(auto, using(crate::proofs::FirstLine::first_of_more, crate::proofs::FirstLine::no_end))]
 pub fn whole_line(text: &[u8]) -> Option<(&[u8], &[u8])>
-    ensures line { IfSome result (λ line. (text.now ≡ line.0.now ++ 10 ∷ line.1.now) × IsOpen line.0.now) }
-    ensures inside { result ≡ None → IsOpen text.now }
+    ensures line { IfSome result (λ line. (text.now ≡ line.0.now ++ 10 ∷ line.1.now) × IsUnended line.0.now) }
+    ensures inside { result ≡ None → IsUnended text.now }
 {
     match memchr(b'\n', text) {
         Some(end) => {

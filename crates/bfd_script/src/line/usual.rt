@@ -2,7 +2,7 @@
 ghost use Rattle.std.specs.Prelude.{◌≡◌, ◌+◌, ◌<◌, ◌≤◌, IfSome, false};
 ghost use Rattle.bfd_script.specs.Arrivals.{port_in};
 ghost use Rattle.bfd_script.specs.Ranges.{IsEvent};
-ghost use Rattle.bfd_script.specs.Windows.{Begins, Reads};
+ghost use Rattle.bfd_script.specs.Windows.{HasLine, Reads};
 ghost use Rattle.bfd_script.specs.declared.line.entries.Entry.TheVariants.{Event};
 ghost use Rattle.bfd_script.specs.declared.line.words.Place.TheVariants.{Events};
 
@@ -41,7 +41,7 @@ pub(crate) fn port_at(text: &[u8; WINDOW], at: usize) -> Option<(Port, usize)>
 
 /// The packet of the line that stands here, and how long the line is with its end.
 fn packet_at(text: &[u8; WINDOW]) -> Option<(Line, usize)>
-    ensures begins { IfSome result (λ part. Begins Events false text.now part.1 (Event part.0)) }
+    ensures begins { IfSome result (λ part. HasLine Events false text.now part.1 (Event part.0)) }
     ensures sound { IfSome result (λ part. IsEvent part.0) }
     ensures near { IfSome result (λ part. (0 < part.1) × (part.1 ≤ 256)) }
 {
@@ -74,7 +74,7 @@ fn packet_at(text: &[u8; WINDOW]) -> Option<(Line, usize)>
 
 /// The tick of the line that stands here, and how long the line is with its end.
 fn tick_at(text: &[u8; WINDOW]) -> Option<(Line, usize)>
-    ensures begins { IfSome result (λ part. Begins Events false text.now part.1 (Event part.0)) }
+    ensures begins { IfSome result (λ part. HasLine Events false text.now part.1 (Event part.0)) }
     ensures sound { IfSome result (λ part. IsEvent part.0) }
     ensures near { IfSome result (λ part. (0 < part.1) × (part.1 ≤ 256)) }
 {
@@ -88,7 +88,7 @@ fn tick_at(text: &[u8; WINDOW]) -> Option<(Line, usize)>
 
 /// The packet or the tick of the line that stands here, and how long the line is with its end.
 pub(crate) fn event_at(text: &[u8; WINDOW]) -> Option<(Line, usize)>
-    ensures begins { IfSome result (λ part. Begins Events false text.now part.1 (Event part.0)) }
+    ensures begins { IfSome result (λ part. HasLine Events false text.now part.1 (Event part.0)) }
     ensures sound { IfSome result (λ part. IsEvent part.0) }
     ensures near { IfSome result (λ part. (0 < part.1) × (part.1 ≤ 256)) }
 {

@@ -4,7 +4,7 @@ ghost use Rattle.bfd_rules.specs.Sound.{is_echo_interval};
 ghost use Rattle.bfd_session.specs.Step.{IsFit};
 ghost use Rattle.bfd_script.specs.Points.{active_of, echo_of, role_of};
 ghost use Rattle.bfd_script.specs.Ranges.{IsRow};
-ghost use Rattle.bfd_script.specs.Windows.{Begins, Reads};
+ghost use Rattle.bfd_script.specs.Windows.{HasLine, Reads};
 ghost use Rattle.bfd_script.specs.declared.line.entries.Entry.TheVariants.{Row};
 ghost use Rattle.bfd_script.specs.declared.line.words.Place.TheVariants.{Table};
 
@@ -77,7 +77,7 @@ fn echo_at(text: &[u8; WINDOW], at: usize, role: Role) -> Option<(u32, usize)>
 
 /// The session of the `p2p` line that stands here, and how long the line is with its end.
 pub(crate) fn point_at(text: &[u8; WINDOW]) -> Option<(SessionConfig, usize)>
-    ensures begins { IfSome result (λ part. (live : Bool) → Begins Table live text.now part.1 (Row part.0)) }
+    ensures begins { IfSome result (λ part. (live : Bool) → HasLine Table live text.now part.1 (Row part.0)) }
     ensures sound { IfSome result (λ part. IsFit part.0 × IsRow part.0) }
     ensures near { IfSome result (λ part. (0 < part.1) × (part.1 ≤ 256)) }
 {

@@ -4,7 +4,7 @@ ghost use Rattle.std.specs.Io.KnownBytes.{IsAtEnd};
 ghost use Rattle.bfd_edge.specs.Faults.{Rose};
 ghost use Rattle.bfd_script.specs.Sound.{IsScript};
 ghost use Rattle.bfdd.specs.Outside.{ConsumesAtMost};
-ghost use Rattle.bfdd.specs.Sources.{HasNone, HasTaken, IsRead};
+ghost use Rattle.bfdd.specs.Sources.{HasNone, IsReadOn, IsRead};
 ghost use Rattle.bfdd.specs.Text.{complaint_line, ends, most_bytes};
 
 use crate::job::answer::Answer;
@@ -49,7 +49,7 @@ pub(crate) enum NoScript {
 /// Reads the source to its end, and never more than one byte past `MOST_BYTES`. Its bytes aren't kept.
 fn read_to_end<S: Source>(alloc: Global, live: bool, source: &mut S) -> Result<Reader, InputFault>
     ensures taken { IfOk result (λ reader. (count : ℕ) × (count ≤ most_bytes)
-        × HasTaken live (S.left source.old) (S.left source.new) count reader) }
+        × IsReadOn live (S.left source.old) (S.left source.new) count reader) }
     ensures end { IfOk result (λ _. IsAtEnd (S.left source.new)) }
     ensures failed { IsErrOf result InputFault.Failed → Rose (S.faults source.old) (S.faults source.new) }
     ensures too_large { IsErrOf result InputFault.TooLarge

@@ -1,6 +1,6 @@
 use Rattle.std.proofs.Common.{◌+◌, ◌++◌, ◌≤◌, ◌∙◌, ap, arith, drop, length, rules, take}
 use Rattle.std.proofs.lemmas.List.{length-take, take-append-le}
-use Rattle.bfd_script.specs.Continued.{goes_on}
+use Rattle.bfd_script.specs.Continued.{told_with}
 use Rattle.bfdd.specs.Text.{most_bytes}
 use Rattle.bfdd.proofs.Taking.{read_more, taken_more}
 use Rattle.bfdd.proofs.job.input.read_to_end.Goals as goal
@@ -26,6 +26,6 @@ pieces-preserved g c =
       search rules,
       taken_more c.args.live _ _ _ c.pieces.count c.in-Ok.more c.pieces.reader c.take.new.self (take c.in-Ok.more c.read.new.buf)
       c.pieces.invariant.1 c.in-Ok.ensures.bytes.0 (search rules) (search rules)
-      (λ rest. c.in-Ok-take.ensures.told rest ∙ ap (λ piece. goes_on c.pieces.reader (piece ++ rest)) same),
+      (λ rest. c.in-Ok-take.ensures.told rest ∙ ap (λ piece. told_with c.pieces.reader (piece ++ rest)) same),
       search rules,
     )
