@@ -8,15 +8,14 @@
 //! defines.
 //!
 //! Layers, lowest first: [`fields`] (lines, and the fields that they are cut into), [`line`] (what one line says), `places`, `rows`,
-//! `table` and `pool` (the sessions and the reflectors so far), `state` (what is kept from line to line), `reading` (one line),
-//! `ahead_rows` and `ahead` (the usual lines that come next), `reader` (the text, piece by piece); alongside them `report`. The one
-//! spelling of a script is for `bfd_serve`.
+//! `table` and `pool` (the sessions and the reflectors so far), `state` (what is kept from line to line), `reading` (one line), `ahead`
+//! (the usual lines that come next), `reader` (the text, piece by piece); alongside them `report`. The one spelling of a script is for
+//! `bfd_serve`.
 //!
 //! It stands on `bfd_session` and what that stands on, and on `byteorder`, `hex`, `itoa` and `memchr`.
 #![tactic(auto)]
 
 mod ahead;
-mod ahead_rows;
 pub mod fields;
 pub mod line;
 mod places;
