@@ -24,12 +24,7 @@ use std::sync::Wait;
 use std::thread::Threads;
 
 /// What a job has to write that reads a script and doesn't serve it.
-#[tactic(auto, using(
-    crate::proofs::Reading::read_wanted,
-    crate::proofs::Reading::read_reports,
-    crate::proofs::Reading::read_answer,
-    crate::proofs::Reading::none_reports,
-))]
+#[tactic(auto, using(crate::proofs::Reading::read_wanted, crate::proofs::Reading::read_reports, crate::proofs::Reading::read_answer, crate::proofs::Reading::none_reports,))]
 fn answer_of_script<R: Wait, S: Source>(
     rt: &R,
     alloc: Global,

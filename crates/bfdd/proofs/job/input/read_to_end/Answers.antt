@@ -21,11 +21,10 @@ returns-then-count-gt-MOST_BYTES-clause-at_most g c =
 pub pieces-preserved : goal.pieces-preserved
 pieces-preserved g c =
     let inside : c.in-Ok.more ≤ length c.read.new.buf = search rules in
-    let same = take-append-le c.in-Ok.more c.read.new.buf (drop c.min-room.result c.pieces.buf) inside in
-    (
+    let same = take-append-le c.in-Ok.more c.read.new.buf (drop c.min-room.result c.pieces.buf) inside in (
       search rules,
       taken_more c.args.live _ _ _ c.pieces.count c.in-Ok.more c.pieces.reader c.take.new.self (take c.in-Ok.more c.read.new.buf)
-      c.pieces.invariant.1 c.in-Ok.ensures.bytes.0 (search rules) (search rules)
-      (λ rest. c.in-Ok-take.ensures.told rest ∙ ap (λ piece. told_with c.pieces.reader (piece ++ rest)) same),
+          c.pieces.invariant.1 c.in-Ok.ensures.bytes.0 (search rules) (search rules)
+          (λ rest. c.in-Ok-take.ensures.told rest ∙ ap (λ piece. told_with c.pieces.reader (piece ++ rest)) same),
       search rules,
     )
