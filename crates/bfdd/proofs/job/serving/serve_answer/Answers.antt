@@ -5,4 +5,4 @@ use Rattle.bfdd.proofs.ServedText.{unwanted}
 use Rattle.bfdd.proofs.job.serving.serve_answer.Goals as goal
 
 pub returns-in-Ok-serve_by-clause-answer : goal.returns-in-Ok-serve_by-clause-answer
-returns-in-Ok-serve_by-clause-answer g c = unwanted (job_by c.args.numbers) _ c.in-Ok-serve_by.answer refl c.in-Ok.ensures.live
+returns-in-Ok-serve_by-clause-answer g c = unwanted (job_by c.args.numbers) _ c.in-Ok-serve_by.answer refl c.in-Ok.ensures.read
