@@ -1,5 +1,6 @@
 -- What was read, over several calls.
-use Rattle.std.proofs.Common.{◌≡◌, ℕ, ◌+◌, ◌≤◌, Bool, List, [], ◌++◌, length, Option, ap, sym, ◌∙◌, arith, append_assoc, length-append}
+use Rattle.std.proofs.Common.{◌≡◌, ℕ, ◌+◌, ◌<◌, ◌≤◌, Bool, List, [], ◌++◌, length, Option, None, Some, ap, sym, ◌∙◌, arith, append_assoc, length-append}
+use Rattle.std.specs.Prelude.{IfSome}
 use Rattle.std.specs.Io.KnownBytes.{Consumes}
 use Rattle.std.proofs.KnownBytes.{Consumes-nil, Consumes-trans}
 use Rattle.bfd_script.specs.Continued.{Progress, told_with}
@@ -15,6 +16,18 @@ read_nothing most known = ([], Consumes-nil known, omega arith)
 pub read_more : (most : ℕ) (first next last : Option (List ℕ)) (a b : List ℕ) → Consumes first next a → Consumes next last b
     → length a + length b ≤ most → ConsumesAtMost most first last
 read_more most first next last a b one two fits = (a ++ b, Consumes-trans first next last a b one two, omega (arith, length-append a b))
+
+-- .. and with it more than so many bytes
+past : (most : ℕ) (first last : Option (List ℕ)) (read : List ℕ) → Consumes first last read → most < length read
+    → IfSome first (λ bytes. most < length bytes)
+past most None last read eats long = tt
+past most (Some all) None read eats long = absurd eats
+past most (Some all) (Some rest) read eats long = omega (arith, ap length eats, length-append read rest, long)
+
+pub read_past : (most : ℕ) (first next last : Option (List ℕ)) (a b : List ℕ) → Consumes first next a → Consumes next last b
+    → most < length a + length b → IfSome first (λ bytes. most < length bytes)
+read_past most first next last a b one two long =
+    past most first last (a ++ b) (Consumes-trans first next last a b one two) (omega (arith, length-append a b, long))
 
 -- .. and a reader took it
 pub taken_more : (live : Bool) (first next last : Option (List ℕ)) (count more : ℕ) (old new : Progress) (piece : List ℕ)
